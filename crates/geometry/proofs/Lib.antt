@@ -1,0 +1,17 @@
+pub mod Isqrt
+pub mod Powers
+pub mod Compare
+pub mod RootDigits
+pub mod RootRounded
+pub mod Split
+pub mod Pack
+pub mod Units
+pub mod Finite
+pub mod SqrtCases
+pub mod Neighbours
+pub mod SqrtNearest
+pub mod Table
+pub mod Series
+pub mod Tolerance
+pub mod ReplyInjective
+pub mod FloatBits

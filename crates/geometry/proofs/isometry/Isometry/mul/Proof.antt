@@ -1,0 +1,20 @@
+use borrow.Author.Needs.{needs}
+use Rattle.geometry.specs.Isometry.{mul}
+use Rattle.geometry.proofs.isometry.Isometry.mul.Statement.{statement}
+use Rattle.geometry.proofs.isometry.Isometry.mul.Tie as tie
+
+rotate-vector-requires : tie.Need-rotate-vector-requires
+rotate-vector-requires c κs = search needs
+
+add-requires : tie.Need-add-requires
+add-requires c κs = search needs
+
+mul-requires : tie.Need-mul-requires
+mul-requires c κs = search needs
+
+returns : tie.Need-returns
+unfolding mul
+returns c = cc
+
+pub mul-spec : {M : Type 1} → statement M
+mul-spec = tie.close (tie.spec rotate-vector-requires add-requires mul-requires returns)

@@ -1,0 +1,27 @@
+use mathlib.Core.Path.{ap}
+use borrow.Author.Needs.{needs}
+use Rattle.time.specs.Float.{whole}
+use Rattle.geometry.specs.Libm.{numerator}
+use Rattle.geometry.proofs.Table.{table, entry}
+use Rattle.geometry.proofs.libm.numerator.Statement.{statement}
+use Rattle.geometry.proofs.libm.numerator.Tie as tie
+
+sub-i : tie.Need-sub-i
+sub-i c = search needs
+
+mul-result : tie.Need-mul-result
+mul-result c = search needs
+
+array-read-result : tie.Need-array-read-result
+array-read-result c = search needs
+
+int-to-float-result : tie.Need-int-to-float-result
+int-to-float-result c = search needs
+
+returns : tie.Need-returns
+unfolding table
+returns c = ap whole (entry numerator 48 (c .before .args .k) (search needs) (search needs))
+
+pub numerator-spec : {M : Type 1} → statement M
+numerator-spec =
+    tie.close (tie.spec sub-i mul-result array-read-result int-to-float-result returns)

@@ -1,0 +1,48 @@
+-- Poses: a rotation followed by a translation.
+use Prim.Native.Nat.{ℕ}
+use mathlib.Core.Bool.{not}
+use mathlib.Core.Option.{Option, none, some}
+use lib.Ieee.{Float}
+use Rattle.time.specs.Float.{_⊖_, one64}
+use Rattle.time.specs.Reply.{Reply, answer, nothing, _then_, refuse}
+use Rattle.time.specs.Timestamp.{share}
+use Rattle.geometry.specs.declared.isometry.Isometry.{Isometry}
+use Rattle.geometry.specs.declared.quaternion.Quaternion.{Quaternion}
+use Rattle.geometry.specs.Vector3 as vector
+use Rattle.geometry.specs.Quaternion as quaternion
+use Rattle.geometry.specs.Quaternion.{conjugate, normalize, rotateVector, slerp, minusOne}
+
+abbrev pub identity : Isometry
+identity = record { translation = vector.zeroVector; rotation = quaternion.identity }
+
+unfoldable pub mul : Isometry → Isometry → Isometry
+mul a b = record {
+  translation = vector.add (rotateVector (a .rotation) (b .translation)) (a .translation);
+  rotation = quaternion.mul (a .rotation) (b .rotation);
+}
+
+-- the inverse by its rotation; 3 for a translation that is not finite
+unfoldable pub unrotated : Isometry → Quaternion → Reply Isometry
+unrotated a rotation =
+    let translation = vector.scale minusOne (rotateVector rotation (a .translation)) in
+    refuse (not (vector.isFinite translation)) 3 nothing (answer (record { translation = translation; rotation = rotation }))
+
+-- the rotation is normalized first (13, 14)
+unfoldable pub inverse : Isometry → Reply Isometry
+inverse a = normalize (a .rotation) then λ q. unrotated a (conjugate q)
+
+-- the translation in proportion, also past the end, and the rotation by slerp
+unfoldable pub between : Isometry → Isometry → Float → Isometry
+between a b ratio = record {
+  translation = vector.add (vector.scale (one64 ⊖ ratio) (a .translation)) (vector.scale ratio (b .translation));
+  rotation = slerp (a .rotation) (b .rotation) ratio;
+}
+
+-- the first pose where both ends have one instant, else the pose at the share
+abbrev pub atShare : Isometry → Isometry → Option Float → Isometry
+atShare a b none = a
+atShare a b (some ratio) = between a b ratio
+
+-- between the pose a at `from` and the pose b at `to`; refusal 15 comes from the share
+unfoldable pub interpolate : Isometry → Isometry → ℕ → ℕ → ℕ → Reply Isometry
+interpolate a b from to query = share from to query then λ s. answer (atShare a b s)

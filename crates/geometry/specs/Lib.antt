@@ -1,0 +1,8 @@
+pub mod Sqrt
+pub mod Libm
+pub mod Vector3
+pub mod Quaternion
+pub mod Isometry
+pub mod Transform
+pub mod Answers
+pub mod Laws

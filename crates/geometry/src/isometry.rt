@@ -1,0 +1,84 @@
+// Poses by value, from src/geometry/transform/isometry.rs.
+ghost use mathlib.Core.Path.{_≡_};
+ghost use Rattle.geometry.specs.Answers.{replyOf};
+ghost use Rattle.geometry.specs.Isometry.{identity, mul, inverse, unrotated, interpolate, between};
+use super::quaternion::Normalized;
+use super::quaternion::Quaternion;
+use super::transform::Answer;
+use super::vector3::Vector3;
+
+// A rotation followed by a translation.
+pub struct Isometry {
+    pub translation: Vector3,
+    pub rotation: Quaternion,
+}
+
+impl Isometry {
+    pub const IDENTITY: Isometry = Isometry {
+        translation: Vector3::ZERO,
+        rotation: Quaternion::IDENTITY,
+    };
+
+    pub fn identity() -> Self
+        ensures { λ r. ⌜ r ≡ identity ⌝ }
+    {
+        Self::IDENTITY
+    }
+
+    pub fn mul(self, rhs: Isometry) -> Isometry
+        ensures { λ r. ⌜ r ≡ mul self rhs ⌝ }
+    {
+        Isometry {
+            translation: self.rotation
+                .rotate_vector(rhs.translation)
+                .add(self.translation),
+            rotation: self.rotation.mul(rhs.rotation),
+        }
+    }
+
+    pub fn inverse(self) -> Answer
+        ensures { λ r. ⌜ replyOf r ≡ inverse self ⌝ }
+    {
+        match self.rotation.normalize() {
+            Normalized::NonFinite => Answer::NonFinite,
+            Normalized::ZeroLengthNormalization => Answer::ZeroLengthNormalization,
+            Normalized::Rotation(q) => self.unrotated(q.conjugate()),
+        }
+    }
+
+    // The inverse, by its rotation.
+    fn unrotated(self, rotation: Quaternion) -> Answer
+        ensures { λ r. ⌜ replyOf r ≡ unrotated self rotation ⌝ }
+    {
+        let translation = rotation.rotate_vector(self.translation).scale(-1.0);
+        if translation.is_finite() {
+            return Answer::Pose(Isometry {
+                translation,
+                rotation,
+            });
+        }
+        Answer::NonFiniteValues
+    }
+
+    // At `query` between self at `from` and other at `to`.
+    pub fn interpolate(self, other: Isometry, from: u64, to: u64, query: u64) -> Answer
+        ensures { λ r. ⌜ replyOf r ≡ interpolate self other from to query ⌝ }
+    {
+        match time::timestamp::share(from, to, query) {
+            time::timestamp::Ratio::DurationUnderflow => Answer::DurationUnderflow,
+            time::timestamp::Ratio::ZeroSpan => Answer::Pose(self),
+            time::timestamp::Ratio::Share(ratio) => Answer::Pose(self.between(other, ratio)),
+        }
+    }
+
+    fn between(self, other: Isometry, ratio: f64) -> Isometry
+        ensures { λ r. ⌜ r ≡ between self other ratio ⌝ }
+    {
+        let kept = self.translation.scale(1.0 - ratio);
+        let gained = other.translation.scale(ratio);
+        Isometry {
+            translation: kept.add(gained),
+            rotation: self.rotation.slerp(other.rotation, ratio),
+        }
+    }
+}

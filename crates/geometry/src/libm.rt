@@ -1,0 +1,256 @@
+// The functions of libm that the Rust calls: IEEE 754's square root by whole numbers, and arc cosine
+// and sine by document 01's steps.
+ghost use mathlib.Core.Path.{_≡_};
+ghost use Prim.Native.Nat.{_+_, _*_, _^_, _<_, _≤_};
+ghost use lib.Ieee.{binary64, ofBits};
+ghost use Rattle.time.specs.Float.{whole};
+ghost use Rattle.geometry.specs.Sqrt.{rootUnits, sqrt, unitsOf};
+ghost use Rattle.geometry.specs.Libm.{numerator, denominator, acos, sin};
+
+// A root in whole numbers, and what is left below the radicand.
+pub struct Digits {
+    pub root: u64,
+    pub rest: u64,
+}
+
+// significand * 2^exponent, in units of 2^-1126.
+pub struct Parts {
+    pub significand: u64,
+    pub exponent: u64,
+}
+
+// The whole root of n * 2^54, a binary digit at a time. At each turn root * root + rest * bit is
+// n * 2^54.
+fn root_digits(n: u64) -> Digits
+    requires { ⌜ n < 2 ^ 54 ⌝ }
+    ensures { λ r. ⌜ (r .root * r .root + r .rest ≡ n * 2 ^ 54) × (r .rest ≤ 2 * r .root) ⌝ }
+{
+    let mut root = 0u64;
+    let mut rest = n;
+    let mut bit = 0x40_0000_0000_0000u64;
+    while 1 < bit {
+        bit = bit / 2;
+        rest = rest * 2;
+        let trial = root * 2 + bit;
+        if trial <= rest {
+            rest = rest - trial;
+            root = root + bit;
+        }
+    }
+    Digits { root, rest }
+}
+
+// The significand at its full 53 digits, and the exponent, of a positive finite value. A subnormal
+// is brought to full width by its count of leading zeros.
+fn split(bits: u64) -> Parts
+    requires { ⌜ (0 < bits) × (bits < 2047 * 2 ^ 52) ⌝ }
+    ensures { λ r. ⌜ (2 ^ 52 ≤ r .significand) × (r .significand < 2 ^ 53) × (r .exponent ≤ 2097) × (r .significand * 2 ^ r .exponent ≡ unitsOf bits * 2 ^ 52) ⌝ }
+{
+    let field = bits / 0x10_0000_0000_0000;
+    let digits = bits % 0x10_0000_0000_0000;
+    if field == 0 {
+        let spare = u64::leading_zeros(digits) as u64 - 11;
+        return Parts {
+            significand: digits << spare,
+            exponent: 52 - spare,
+        };
+    }
+    Parts {
+        significand: digits + 0x10_0000_0000_0000,
+        exponent: field + 51,
+    }
+}
+
+// The same number as significand * 4^exponent.
+fn paired(p: Parts) -> Parts
+    requires { ⌜ (2 ^ 52 ≤ p .significand) × (p .significand < 2 ^ 53) × (p .exponent ≤ 2097) ⌝ }
+    ensures { λ r. ⌜ (2 ^ 52 ≤ r .significand) × (r .significand < 2 ^ 54) × (r .exponent ≤ 1048) × (r .significand * 4 ^ r .exponent ≡ p .significand * 2 ^ p .exponent) ⌝ }
+{
+    let half = p.exponent / 2;
+    if p.exponent % 2 == 0 {
+        return Parts {
+            significand: p.significand,
+            exponent: half,
+        };
+    }
+    Parts {
+        significand: p.significand * 2,
+        exponent: half,
+    }
+}
+
+// The bits of the root of a positive finite value, from its bits. The 54 digits of the root are
+// rounded to 53: the last digit decides, since the root is never half way.
+fn root_pattern(bits: u64) -> u64
+    requires { ⌜ (0 < bits) × (bits < 2047 * 2 ^ 52) ⌝ }
+    ensures { λ r. ⌜ (r < 2047 * 2 ^ 52) × (ofBits binary64 r ≡ rootUnits binary64 (unitsOf bits)) ⌝ }
+{
+    let p = paired(split(bits));
+    let d = root_digits(p.significand);
+    (p.exponent + 485) * 0x10_0000_0000_0000 + (d.root / 2 + d.root % 2)
+}
+
+// The nearest f64 to the exact root. A zero gives itself, plus infinity itself, a NaN or anything
+// below zero a NaN.
+pub fn sqrt(x: f64) -> f64
+    ensures { λ r. ⌜ r ≡ sqrt x ⌝ }
+{
+    if x != x {
+        return x;
+    }
+    if x == 0.0 {
+        return x;
+    }
+    if x < 0.0 {
+        return 0.0 / 0.0;
+    }
+    if x == f64::from_bits(0x7ff0_0000_0000_0000) {
+        return x;
+    }
+    f64::from_bits(root_pattern(f64::to_bits(x)))
+}
+
+// (2k-1)^2, for k from 1 to 48
+const NUMERATORS: [u16; 48] = [
+    1,
+    9,
+    25,
+    49,
+    81,
+    121,
+    169,
+    225,
+    289,
+    361,
+    441,
+    529,
+    625,
+    729,
+    841,
+    961,
+    1089,
+    1225,
+    1369,
+    1521,
+    1681,
+    1849,
+    2025,
+    2209,
+    2401,
+    2601,
+    2809,
+    3025,
+    3249,
+    3481,
+    3721,
+    3969,
+    4225,
+    4489,
+    4761,
+    5041,
+    5329,
+    5625,
+    5929,
+    6241,
+    6561,
+    6889,
+    7225,
+    7569,
+    7921,
+    8281,
+    8649,
+    9025,
+];
+
+// 2k(2k+1), for k from 1 to 48
+const DENOMINATORS: [u16; 48] = [
+    6,
+    20,
+    42,
+    72,
+    110,
+    156,
+    210,
+    272,
+    342,
+    420,
+    506,
+    600,
+    702,
+    812,
+    930,
+    1056,
+    1190,
+    1332,
+    1482,
+    1640,
+    1806,
+    1980,
+    2162,
+    2352,
+    2550,
+    2756,
+    2970,
+    3192,
+    3422,
+    3660,
+    3906,
+    4160,
+    4422,
+    4692,
+    4970,
+    5256,
+    5550,
+    5852,
+    6162,
+    6480,
+    6806,
+    7140,
+    7482,
+    7832,
+    8190,
+    8556,
+    8930,
+    9312,
+];
+
+fn numerator(k: usize) -> f64
+    requires { ⌜ (1 ≤ k) × (k ≤ 48) ⌝ }
+    ensures { λ r. ⌜ r ≡ whole (numerator k) ⌝ }
+{
+    let i = k - 1;
+    NUMERATORS[i] as f64
+}
+
+fn denominator(k: usize) -> f64
+    requires { ⌜ (1 ≤ k) × (k ≤ 48) ⌝ }
+    ensures { λ r. ⌜ r ≡ whole (denominator k) ⌝ }
+{
+    let i = k - 1;
+    DENOMINATORS[i] as f64
+}
+
+pub fn acos(d: f64) -> f64
+    ensures { λ r. ⌜ r ≡ acos d ⌝ }
+{
+    let z = sqrt((1.0 - d) / 2.0);
+    let mut h = 1.0f64;
+    let mut k = 48usize;
+    while 0 < k {
+        h = 1.0 + z * z * (numerator(k) / denominator(k)) * h;
+        k = k - 1;
+    }
+    2.0 * (z * h)
+}
+
+pub fn sin(a: f64) -> f64
+    ensures { λ r. ⌜ r ≡ sin a ⌝ }
+{
+    let mut s = 1.0f64;
+    let mut k = 10usize;
+    while 0 < k {
+        s = 1.0 - a * a / denominator(k) * s;
+        k = k - 1;
+    }
+    a * s
+}

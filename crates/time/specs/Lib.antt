@@ -1,0 +1,5 @@
+pub mod Float
+pub mod Reply
+pub mod Answers
+pub mod Timestamp
+pub mod Laws
