@@ -15,3 +15,7 @@ pub mod Series
 pub mod Tolerance
 pub mod ReplyInjective
 pub mod FloatBits
+pub mod SqrtOrder
+pub mod Squares
+pub mod UnitDistance
+pub mod ValidFast

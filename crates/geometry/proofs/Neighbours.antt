@@ -1,5 +1,4 @@
 -- Of two neighbours of 53 digits that hold a root between them, the one on the root's side of their middle is nearest to it.
--- x
 use mathlib.Core.Path.{_≡_, sym, ap, ap₂, _∙_, subst}
 use mathlib.Core.Logic.{_⊎_, inl, inr, ⊎-elim}
 use Prim.Native.Nat.{ℕ, zero, suc, _+_, _-_, _*_, _%_, _^_, _≤_, _<_, compare, Ordering, Ordering·lt, Ordering·eq, Ordering·gt}
@@ -19,7 +18,7 @@ pub record Held (v : ℕ) : Type 0 where
   pub is : v ≡ digits * 2 ^ shift
 
 -- no such number lies between q * 2 ^ k and (q + 1) * 2 ^ k, where q has 53 digits
-gap : (v q k : ℕ) → Held v → 2 ^ 52 ≤ q → (v ≤ q * 2 ^ k) ⊎ ((q + 1) * 2 ^ k ≤ v)
+pub gap : (v q k : ℕ) → Held v → 2 ^ 52 ≤ q → (v ≤ q * 2 ^ k) ⊎ ((q + 1) * 2 ^ k ≤ v)
 gap v q k h lo = by-shift (decLe k (h .shift))
   where
     by-shift : Dec (k ≤ h .shift) → (v ≤ q * 2 ^ k) ⊎ ((q + 1) * 2 ^ k ≤ v)

@@ -26,7 +26,8 @@ trailing-more zero s p h = absurd (no p h)
 trailing-more (suc d) s p h =
     go (s % 2) refl (λ e. trailing-more d (s / 2) (half-pos s p e) (div-lt-iff-lt-mul (zero-lt-suc 1) .1 (subst (λ (x : ℕ). s < x) (pow-suc 2 d) h)))
   where
-    go : (r : ℕ) → s % 2 ≡ r → (s % 2 ≡ 0 → trailingZeros (suc d) (s / 2) ≡ trailingZeros d (s / 2)) → under r (under (s / 2 % 2) (trailingZeros d (s / 2 / 2))) ≡ under r (trailingZeros d (s / 2))
+    go : (r : ℕ) → s % 2 ≡ r → (s % 2 ≡ 0 → trailingZeros (suc d) (s / 2) ≡ trailingZeros d (s / 2))
+        → under r (under (s / 2 % 2) (trailingZeros d (s / 2 / 2))) ≡ under r (trailingZeros d (s / 2))
     go zero e ih = ap suc (ih e)
     go (suc r) e ih = refl
 

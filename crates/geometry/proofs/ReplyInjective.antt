@@ -25,5 +25,5 @@ back NonFinite = refl
 back ZeroLengthNormalization = refl
 back DurationUnderflow = refl
 
-pub reply-injective : ReplyInjective
-reply-injective a b e = sym (back a) ∙ ap answerOf e ∙ back b
+pub replyInjective : ReplyInjective
+replyInjective a b e = sym (back a) ∙ ap answerOf e ∙ back b

@@ -60,7 +60,8 @@ leading-is m k q a h f =
 
 module _ (c m k Q rest : ℕ) (c-is : c * 2 ^ 1074 ≡ m * 4 ^ k) (beyond-k : beyond binary64 (m * 4 ^ k) ≡ k) (m-lt : m < 4 ^ 53) (sq : Q * Q + rest ≡ 4 * m) (le : rest ≤ 2 * Q) where
   -- by the floor of the root of m, and how four times m compares with the half way point squared
-  by-order : (q s : ℕ) (o : Ordering) → Floor m q → compare (4 * (m * 4 ^ k)) ((2 * q + 1) * (2 * q + 1) * 4 ^ k) ≡ o → nearest q o ≡ s → rootUnits binary64 c ≡ units binary64 false s k
+  by-order : (q s : ℕ) (o : Ordering) → Floor m q → compare (4 * (m * 4 ^ k)) ((2 * q + 1) * (2 * q + 1) * 4 ^ k) ≡ o → nearest q o ≡ s
+      → rootUnits binary64 c ≡ units binary64 false s k
   by-order q s o f g e =
       root-is c (m * 4 ^ k) k q c-is beyond-k (leading-is m k q beyond-k m-lt f)
       ∙ ap (λ (x : Ordering). units binary64 false (nearest q x) k) g

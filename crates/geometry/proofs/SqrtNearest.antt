@@ -82,7 +82,8 @@ root-at : (c : ℕ) → rootUnits binary64 c ≡ units binary64 false (kept (c *
 unfolding rootUnits leading
 root-at c = refl
 
-of-digits : (n z : ℕ) → 1074 < z → z ≤ 3172 → n < 2 ^ z → ((j : ℕ) → j < z → 2 ^ j ≤ n) → Units (units binary64 false (kept n z) (place z)) (kept n z * 2 ^ place z) × Nearest n (kept n z * 2 ^ place z)
+of-digits : (n z : ℕ) → 1074 < z → z ≤ 3172 → n < 2 ^ z → ((j : ℕ) → j < z → 2 ^ j ≤ n)
+    → Units (units binary64 false (kept n z) (place z)) (kept n z * 2 ^ place z) × Nearest n (kept n z * 2 ^ place z)
 of-digits n z big few z-lt z-ge =
     let q = lead n z in
     let o = compare (4 * n) ((2 * q + 1) * (2 * q + 1) * 4 ^ place z) in
@@ -132,7 +133,7 @@ shifted m v (negsuc a) h k =
     ap (λ (x : ℕ). x * 2 ^ 1074) (mul-one m) ∙ ap (λ (x : ℕ). m * 2 ^ x) (sym e) ∙ ap (λ (x : ℕ). m * x) (pow-add 2 j (suc a)) ∙ sym (mul-assoc m (2 ^ j) (2 ^ suc a)) in
     (j, eq-of-mul-eq-mul-right (2 ^ suc a) (pow-pos (suc a)) v (m * 2 ^ j) (sym k ∙ d))
 
-held : (y : Float) (v : ℕ) → T (fits binary64 y) → Units y v → Held v
+pub held : (y : Float) (v : ℕ) → T (fits binary64 y) → Units y v → Held v
 unfolding fits
 held nan v f h = absurd h
 held (inf s) v f h = absurd h
@@ -161,8 +162,8 @@ is-positive (fin false m e) f h =
     let p : 0 < m * up e * 1 = subst (λ (y : ℕ). y < m * up e * 1) (zero-mul (down e)) (ltb-true (0 * 1 * down e) (m * up e * 1) h) in
     positive (first-pos m (up e) (first-pos (m * up e) 1 p))
 
-pub sqrt-nearest : SqrtNearest
-sqrt-nearest x f n l = go x f (is-positive x n l)
+pub sqrtNearest : SqrtNearest
+sqrtNearest x f n l = go x f (is-positive x n l)
   where
     Near : Float → Type 0
     Near x = (m : ℕ) × (r : ℕ) × Units x m × Units (sqrt x) r × laws.Nearest (m * 2 ^ 1074) r

@@ -1,8 +1,8 @@
 -- What a pose must be to be added: `validate` and its tolerance.
-use mathlib.Core.Bool.{not, _&&_}
+use mathlib.Core.Bool.{Bool, true, false, not, _&&_}
 use lib.Ieee.{Float, binary64, lt, ofBits}
 use Rattle.time.specs.Float.{_⊖_, one64, abs}
-use Rattle.time.specs.Reply.{Reply, answer, norm, nothing, refuse}
+use Rattle.time.specs.Reply.{Reply, answer, refusal, norm, nothing, refuse}
 use Rattle.geometry.specs.declared.isometry.Isometry.{Isometry}
 use Rattle.geometry.specs.Vector3 as vector
 use Rattle.geometry.specs.Quaternion as quaternion
@@ -18,3 +18,12 @@ validate a =
     refuse (not (vector.isFinite (a .translation) && quaternion.isFinite (a .rotation))) 3 nothing
     (refuse (lt tolerance (abs (n ⊖ one64))) 4 (norm n)
     (answer a))
+
+-- a pose, and no refusal
+abbrev pub passes : Reply Isometry → Bool
+passes (answer a) = true
+passes (refusal k c) = false
+
+-- whether a pose passes `validate`
+abbrev pub isValid : Isometry → Bool
+isValid a = passes (validate a)

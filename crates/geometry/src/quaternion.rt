@@ -88,7 +88,7 @@ impl Quaternion {
         }
     }
 
-    fn dot(self, other: Quaternion) -> f64
+    pub fn dot(self, other: Quaternion) -> f64
         ensures { λ r. ⌜ r ≡ dot self other ⌝ }
     {
         self.w * other.w + self.x * other.x + self.y * other.y + self.z * other.z

@@ -42,7 +42,7 @@ units-plain q k = go (ltb (q * 2 ^ k) (2 ^ 2098))
     go true = inl (of-value (odd 54 false q k 1074) (q * 2 ^ k) (2 ^ 1074) (odd-sign 54 false q k 1074))
     go false = inr refl
 
-round-plain : (a b : ℕ) → Plain (round binary64 false a b) ⊎ (round binary64 false a b ≡ inf false)
+pub round-plain : (a b : ℕ) → Plain (round binary64 false a b) ⊎ (round binary64 false a b ≡ inf false)
 round-plain a b = subst (λ (z : Float). Plain z ⊎ (z ≡ inf false)) (sym (round-is binary64 false a b)) (units-plain (kept 53 (a * 2 ^ 1074) b) (drop 53 (a * 2 ^ 1074) b))
 
 under : (x y : Float) → Plain y → Plain x ⊎ (x ≡ inf false) → T (le x y) → Plain x

@@ -51,8 +51,8 @@ ratio-within part span p h k =
     whole-part : (a b : ℕ) → a ≤ b → a * 1 ≤ 1 * b
     whole-part a b h = omega arith
 
-pub share-within : ShareWithin
+pub shareWithin : ShareWithin
 unfolding share
-share-within from to query a b c d =
+shareWithin from to query a b c d =
     let w = ratio-within (query - from) (to - from) (omega arith) (omega arith) (omega arith) in
     (ratio (query - from) (to - from), simp (le-ltb to from (le-of-lt a), ne-eqb (to - from) 0 (λ e. omega arith), le-ltb query from b), is-true _ (w .0), is-true _ (w .1))

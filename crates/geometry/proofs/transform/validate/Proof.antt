@@ -43,16 +43,13 @@ norm-requires : tie.Need-norm-requires
 norm-requires c κs = search needs
 
 returns-3 : tie.Need-returns-3
-returns-3 c =
-    rw (← by-norm (c .before)) (simp (either-side, c .if3 .taken))
+returns-3 c = rw (← by-norm (c .before)) (simp (either-side, c .if3 .taken))
 
 returns-4 : tie.Need-returns-4
-returns-4 c =
-    rw (← by-norm (c .before .before)) (simp (either-side, c .before .if3 .left, c .if4 .taken))
+returns-4 c = rw (← by-norm (c .before .before)) (simp (either-side, c .before .if3 .left, c .if4 .taken))
 
 returns-5 : tie.Need-returns-5
-returns-5 c =
-    rw (← by-norm (c .before .before)) (simp (either-side, c .before .if3 .left, c .if4 .left))
+returns-5 c = rw (← by-norm (c .before .before)) (simp (either-side, c .before .if3 .left, c .if4 .left))
 
 pub validate-spec : {M : Type 1} → statement M
 validate-spec =

@@ -1,7 +1,7 @@
 use mathlib.Core.Path.{_≡_, ap, _∙_}
 use mathlib.Core.Bool.{not}
 use borrow.Author.Needs.{needs}
-use Rattle.time.specs.Reply.{Reply, answer, refusal, nothing, refuse}
+use Rattle.time.specs.Reply.{Reply, answer, nothing, refuse}
 use Rattle.geometry.specs.declared.vector3.Vector3.{Vector3}
 use Rattle.geometry.specs.declared.quaternion.Quaternion.{Quaternion}
 use Rattle.geometry.specs.declared.isometry.Isometry.{Isometry}
@@ -14,6 +14,10 @@ use Rattle.geometry.proofs.isometry.Isometry.unrotated.Tie as tie
 moved : Quaternion → Vector3 → Reply Isometry
 moved q v = refuse (not (isFinite v)) 3 nothing (answer (record { translation = v; rotation = q }))
 
+by-translation : (c : tie.After-scale) → let a = c .before .before .args in moved (a .rotation) (c .scale .result) ≡ unrotated (a .self) (a .rotation)
+unfolding moved unrotated
+by-translation c = ap (moved (c .before .before .args .rotation)) (c .scale .ensures ∙ ap (scale minusOne) (c .before .rotate-vector .ensures))
+
 rotate-vector-requires : tie.Need-rotate-vector-requires
 rotate-vector-requires c κs = search needs
 
@@ -24,22 +28,12 @@ is-finite-requires : tie.Need-is-finite-requires
 is-finite-requires c κs = search needs
 
 returns : tie.Need-returns
-unfolding moved unrotated
-returns c =
-    let at = c .before .before in
-    let q = at .before .before .args .rotation in
-    let v = at .scale .result in
-    let e : answer (record { translation = v; rotation = q }) ≡ moved q v = rw (← c .before .is-finite .ensures) (simp (c .if1 .taken)) in
-    e ∙ ap (moved q) (at .scale .ensures ∙ ap (scale minusOne) (at .before .rotate-vector .ensures))
+unfolding moved
+returns c = rw (← by-translation (c .before .before), ← c .before .is-finite .ensures) (simp (c .if1 .taken))
 
 returns-2 : tie.Need-returns-2
-unfolding moved unrotated
-returns-2 c =
-    let at = c .before .before in
-    let q = at .before .before .args .rotation in
-    let v = at .scale .result in
-    let e : refusal 3 nothing ≡ moved q v = rw (← c .before .is-finite .ensures) (simp (c .if1 .left)) in
-    e ∙ ap (moved q) (at .scale .ensures ∙ ap (scale minusOne) (at .before .rotate-vector .ensures))
+unfolding moved
+returns-2 c = rw (← by-translation (c .before .before), ← c .before .is-finite .ensures) (simp (c .if1 .left))
 
 pub unrotated-spec : {M : Type 1} → statement M
 unrotated-spec =

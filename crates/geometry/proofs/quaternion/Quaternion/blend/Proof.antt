@@ -1,4 +1,4 @@
-use mathlib.Core.Path.{_≡_, ap, _∙_}
+use mathlib.Core.Path.{_≡_, ap}
 use mathlib.Core.Bool.{cond}
 use lib.Ieee.{lt}
 use borrow.Author.Needs.{needs}
@@ -11,6 +11,10 @@ use Rattle.geometry.proofs.quaternion.Quaternion.blend.Tie as tie
 unlessShort : Quaternion → Quaternion
 unlessShort q = cond (lt (norm q) epsilon) q (scale q (one64 ⊘ norm q))
 
+by-sum : (c : tie.After-weighted-sum) → let a = c .before .args in unlessShort (c .weighted-sum .result) ≡ blend (a .self) (a .other) (a .t)
+unfolding unlessShort blend
+by-sum c = ap unlessShort (c .weighted-sum .ensures)
+
 weighted-sum-requires : tie.Need-weighted-sum-requires
 weighted-sum-requires c κs = search needs
 
@@ -18,22 +22,17 @@ norm-requires : tie.Need-norm-requires
 norm-requires c κs = search needs
 
 returns : tie.Need-returns
-unfolding unlessShort blend
-returns c =
-    let sum = c .before .before .weighted-sum in
-    let e : sum .result ≡ unlessShort (sum .result) = rw (← c .before .norm .ensures) (simp (c .if1 .taken)) in
-    e ∙ ap unlessShort (sum .ensures)
+unfolding unlessShort
+returns c = rw (← by-sum (c .before .before), ← c .before .norm .ensures) (simp (c .if1 .taken))
 
 scale-requires : tie.Need-scale-requires
 scale-requires c κs = search needs
 
 returns-2 : tie.Need-returns-2
-unfolding unlessShort blend
+unfolding unlessShort
 returns-2 c =
     let at = c .before .before in
-    let sum = at .before .weighted-sum in
-    let e : c .scale .result ≡ unlessShort (sum .result) = rw (← at .norm .ensures) (simp (c .before .if1 .left) (c .scale .ensures)) in
-    e ∙ ap unlessShort (sum .ensures)
+    rw (← by-sum (at .before), ← at .norm .ensures) (simp (c .before .if1 .left) (c .scale .ensures))
 
 pub blend-spec : {M : Type 1} → statement M
 blend-spec =

@@ -23,7 +23,9 @@ unfolding slerp
 returns c =
     let flipped = c .before .before in
     let at = flipped .before .before in
-    rw (← at .dot .ensures, ← at .before .clamp .ensures) (simp (flipped .before .if1 .taken) (rw (← flipped .scale .ensures, ← c .before .clamp2 .ensures) (c .between .ensures)))
+    rw (← at .dot .ensures, ← at .before .clamp .ensures)
+    (simp (flipped .before .if1 .taken)
+    (rw (← flipped .scale .ensures, ← c .before .clamp2 .ensures) (c .between .ensures)))
 
 clamp-requires-3 : tie.Need-clamp-requires-3
 clamp-requires-3 c κs = search needs
@@ -35,7 +37,9 @@ returns-2 : tie.Need-returns-2
 unfolding slerp
 returns-2 c =
     let at = c .before .before .before in
-    rw (← at .dot .ensures, ← at .before .clamp .ensures) (simp (c .before .before .if1 .left) (rw (← c .before .clamp3 .ensures) (c .between2 .ensures)))
+    rw (← at .dot .ensures, ← at .before .clamp .ensures)
+    (simp (c .before .before .if1 .left)
+    (rw (← c .before .clamp3 .ensures) (c .between2 .ensures)))
 
 pub slerp-spec : {M : Type 1} → statement M
 slerp-spec =
