@@ -1,0 +1,99 @@
+-- `registry::remove_before::remove_before` meets its contract: 1, 2, or the wipe of a store that is sized and sound.
+use mathlib.Core.Path.{_≡_, subst}
+use borrow.Author.Needs.{needs}
+use Rattle.registry.specs.declared.check.Checked.{Checked}
+use Rattle.registry.specs.Store.{Store}
+use Rattle.registry.specs.Calls.{storeOf}
+use Rattle.registry.specs.Checks.{Checks}
+use Rattle.registry.proofs.RowWiping.{wipe-sizes, wipe-unsound}
+use Rattle.registry.proofs.remove_before.remove_before.Statement.{statement}
+use Rattle.registry.proofs.remove_before.remove_before.Tie as tie
+
+abbrev store : tie.Start → Store
+store s = storeOf (s .args .head .now) (s .args .instants .now) (s .args .poses .now)
+
+abbrev start : tie.After-check → tie.Start
+start c = c .before .before .before .before .before .before .before
+
+checked : (c : tie.After-check) (r : Checked) → c .check .result ≡ r → Checks (store (start c)) r
+checked c r e = subst (Checks (store (start c))) e (c .check .ensures)
+
+check-requires : tie.Need-check-requires
+check-requires c κs = search needs
+
+enum-told : tie.Need-enum-told
+enum-told c = search needs
+
+enum-told-2 : tie.Need-enum-told-2
+enum-told-2 c = search needs
+
+enum-told-3 : tie.Need-enum-told-3
+enum-told-3 c = search needs
+
+wipe-requires : tie.Need-wipe-requires
+wipe-requires c κs = let m = c .before .before .before in checked (m .before .before) _ (m .enum-told3 .given .1)
+
+same-length : tie.Need-same-length
+same-length c = search needs
+
+same-length-2 : tie.Need-same-length-2
+same-length-2 c = search needs
+
+same-length-3 : tie.Need-same-length-3
+same-length-3 c = search needs
+
+returns : tie.Need-returns
+returns c =
+    let k = c .before .before in
+    let s = start k in
+    wipe-sizes (store s) (s .args .child) (s .args .t) (checked k _ (c .enum-told .given .1))
+
+same-length-4 : tie.Need-same-length-4
+same-length-4 c = search needs
+
+same-length-5 : tie.Need-same-length-5
+same-length-5 c = search needs
+
+same-length-6 : tie.Need-same-length-6
+same-length-6 c = search needs
+
+returns-2 : tie.Need-returns-2
+returns-2 c =
+    let k = c .before .before in
+    let s = start k in
+    let e = checked k _ (c .enum-told2 .given .1) in
+    wipe-unsound (store s) (s .args .child) (s .args .t) (e .0) (e .1)
+
+same-length-7 : tie.Need-same-length-7
+same-length-7 c = search needs
+
+same-length-8 : tie.Need-same-length-8
+same-length-8 c = search needs
+
+same-length-9 : tie.Need-same-length-9
+same-length-9 c = search needs
+
+returns-3 : tie.Need-returns-3
+returns-3 c = search needs
+
+pub remove-before-spec : {M : Type 1} → statement M
+remove-before-spec =
+    tie.close
+    (tie.spec
+    check-requires
+    enum-told
+    enum-told-2
+    enum-told-3
+    wipe-requires
+    same-length
+    same-length-2
+    same-length-3
+    returns
+    same-length-4
+    same-length-5
+    same-length-6
+    returns-2
+    same-length-7
+    same-length-8
+    same-length-9
+    returns-3)

@@ -1,0 +1,39 @@
+// Opening a store.
+use super::answer::Answer;
+use super::head;
+use super::sizes;
+use buffer::max_age::MaxAge;
+use buffer::words;
+ghost use mathlib.Core.Path.{_≡_};
+ghost use Rattle.buffer.specs.Answers.{ageOf};
+ghost use Rattle.registry.specs.Answers.{replyOf};
+ghost use Rattle.registry.specs.Calls.{outcome, storeOf, openOf};
+
+// Overwrites everything with a store of these sizes and this age, with no row used.
+pub fn open(
+    head: &mut [u64],
+    instants: &mut [u64],
+    poses: &mut [f64],
+    rows: u64,
+    samples: u64,
+    max_age: MaxAge,
+) -> Answer
+    ensures { λ r. ⌜ outcome (replyOf r) (now (head .exit)) (now (instants .exit)) (now (poses .exit))
+        ≡ openOf (storeOf (now (head .entry)) (now (instants .entry)) (now (poses .entry))) (record { rows = rows; places = samples; age = ageOf «max_age» }) ⌝ }
+{
+    let fit = sizes::sizes_fit(head, instants, poses, rows, samples);
+    if !fit {
+        return Answer::Sizes;
+    }
+    words::clear_words(head);
+    words::clear_words(instants);
+    words::clear_floats(poses);
+    head[head::ROWS] = rows;
+    head[head::PLACES] = samples;
+    let MaxAge::Nanos(age) = max_age else {
+        return Answer::Done;
+    };
+    head[head::AGE_FLAG] = 1;
+    head[head::AGE] = age;
+    Answer::Done
+}
