@@ -1,9 +1,9 @@
 -- What an addition leaves in a sound store: the refusal of its tests and every word as it was, a held child's row grown, or a new child's row put in.
 use Prim.Native.Nat.{ℕ, suc, _+_, _*_, _≤_, _<_}
 use mathlib.Core.Path.{_≡_, refl, sym, ap, subst, _∙_}
-use mathlib.Core.Bool.{Bool, true, false, not}
+use mathlib.Core.Bool.{Bool, true, false}
 use mathlib.Core.Option.{Option, none, some}
-use mathlib.Core.List.{List, [], _∷_, _++_}
+use mathlib.Core.List.{[], _∷_, _++_}
 use native.Mathlib.Nat.{suc-mul, mul-le-mul-right}
 use native.Mathlib.Omega.{arith}
 use lib.Dec.{ltb, leb}
@@ -22,24 +22,24 @@ use Rattle.buffer.specs.Samples.{insert}
 use Rattle.buffer.specs.Row.{FloatsFit, instantWords, poseWords}
 use Rattle.buffer.proofs.Maps.{Rising, rising-is, rising-put, put-again, length-put-new}
 use Rattle.buffer.proofs.SampleLaws.{insert-empty}
-use Rattle.registry.specs.declared.answer.Answer.{Answer}
-use Rattle.registry.specs.Tree.{Edge, Tree, Limits, Addition, kindOf, instantOf, grown, add}
-use Rattle.registry.specs.Store.{Store, rowWords, encode, rowsIn, placesIn, usedIn, rowAt, treeOf, limitsOf, sized}
-use Rattle.registry.specs.Sound.{sound}
-use Rattle.registry.specs.Answers.{Value, done, replyOf}
-use Rattle.registry.specs.Calls.{Outcome, outcome, storeOf, written, onTree, addOf}
+use Rattle.tree.specs.declared.answer.Answer.{Answer}
+use Rattle.tree.specs.Tree.{Edge, Tree, Limits, Addition, kindOf, instantOf, grown, add}
+use Rattle.tree.specs.Store.{Store, rowWords, encode, rowsIn, placesIn, usedIn, rowAt, treeOf, limitsOf, sized}
+use Rattle.tree.specs.Sound.{sound}
+use Rattle.tree.specs.Answers.{done, replyOf}
+use Rattle.tree.specs.Calls.{outcome, storeOf, written, onTree, addOf}
 use Rattle.registry.specs.Rows.{IsRow, IsAbsent, RowRoom, emptyRow, rowInserted, withRow}
 use Rattle.registry.specs.Checks.{RowPart, SoundStore}
 use Rattle.registry.specs.Adding.{addition, admits, HeldRow, putInto}
-use Rattle.registry.proofs.answer.Answer as declared
-use Rattle.registry.proofs.SizeLaws.{sized-is}
-use Rattle.registry.proofs.Rules.{sound-is}
-use Rattle.registry.proofs.SoundIsEncoded.{soundIsEncoded}
-use Rattle.registry.proofs.StoreBack.{Fits, blank, limits-back, tree-back}
-use Rattle.registry.proofs.FitBlocks.{all-insert}
-use Rattle.registry.proofs.MapRows.{Gap, put-gap}
+use Rattle.tree.proofs.answer.Answer as declared
+use Rattle.tree.proofs.SizeLaws.{sized-is}
+use Rattle.tree.proofs.Rules.{sound-is}
+use Rattle.tree.proofs.SoundIsEncoded.{soundIsEncoded}
+use Rattle.tree.proofs.StoreBack.{Fits, blank, limits-back, tree-back}
+use Rattle.tree.proofs.FitBlocks.{all-insert}
+use Rattle.tree.proofs.MapRows.{Gap, put-gap}
 use Rattle.registry.proofs.TreeRows.{length-tree, tree-row, get-found, gap-absent, get-absent}
-use Rattle.registry.proofs.EncodePut.{put-new}
+use Rattle.tree.proofs.EncodePut.{encode-new}
 use Rattle.registry.proofs.SoundStore.{sound-rows, tree-fits, encoded-part, encoded-held}
 use Rattle.registry.proofs.Admitting.{others, admits-decides, passed, failed}
 
@@ -137,7 +137,7 @@ module _ (s : Store) (ok : SoundStore s) (fit : FloatsFit (s .poses)) (k child p
       let n : usedIn s ≡ length (treeOf s) = sym (length-tree s) in
       let m : usedIn s + 1 ≡ suc (length (treeOf s)) = omega arith in
       (λ j. put-in (soundIsEncoded s fit (ok .sizes) (ok .rules) .0 j) (n j) (m j))
-      ∙ put-new (limitsOf s) (treeOf s) (tree-fits s ok) child k gap blankEdge (omega arith)
+      ∙ encode-new (limitsOf s) (treeOf s) (tree-fits s ok) child k gap blankEdge (omega arith)
 
   grown-is : grownTree ≡ take k (treeOf s) ++ (child, blankEdge) ∷ drop k (treeOf s)
   grown-is = put-gap blank (treeOf s) child k blankEdge gap

@@ -22,15 +22,15 @@ use Rattle.geometry.specs.Quaternion as quaternion
 use Rattle.geometry.specs.Transform.{tolerance, validate}
 use Rattle.geometry.specs.Answers as posed
 use Rattle.geometry.proofs.transform.Answer.{the-type}
-use Rattle.registry.proofs.answer.Answer as declared
-use Rattle.registry.specs.declared.answer.Answer.{Answer}
-use Rattle.registry.specs.declared.answer.Answer.the-variants as enum
-use Rattle.registry.specs.Tree.{Edge, Tree, Limits, Addition, isNew, ancestors, member, sameKind, kindOf, otherParent, thatParent, otherKind}
-use Rattle.registry.specs.Answers.{Value, done, replyOf}
-use Rattle.registry.specs.Store.{Store, rowsIn, usedIn, treeOf, limitsOf}
+use Rattle.tree.proofs.answer.Answer as declared
+use Rattle.tree.specs.declared.answer.Answer.{Answer}
+use Rattle.tree.specs.declared.answer.Answer.the-variants as enum
+use Rattle.tree.specs.Tree.{Edge, Tree, Limits, Addition, isNew, ancestors, member, sameKind, kindOf, otherParent, thatParent, otherKind}
+use Rattle.tree.specs.Answers.{Value, done, replyOf}
+use Rattle.tree.specs.Store.{Store, rowsIn, usedIn, treeOf, limitsOf}
 use Rattle.registry.specs.Adding.{addition, posed, admits}
 use Rattle.registry.proofs.TreeRows.{length-tree}
-use Rattle.registry.proofs.Accepted.{refusal-answer}
+use Rattle.tree.proofs.Accepted.{refusal-answer}
 
 -- ---- 3 and 4
 

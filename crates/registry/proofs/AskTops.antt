@@ -12,11 +12,11 @@ use Rattle.buffer.proofs.Cases.{both, false-true}
 use Rattle.registry.specs.declared.path.Endpoints.{Endpoints}
 use Rattle.registry.specs.declared.path.Endpoints.the-variants.{Same, Unknown, Known}
 use Rattle.registry.specs.declared.compose.Composed.{Composed}
-use Rattle.registry.specs.Tree.{Tree, member}
-use Rattle.registry.specs.Answers.{Value, pose}
-use Rattle.registry.specs.Path.{Hop, chain, until, any, side, connected, hops, known, ask, fold, joined, lookupAlong, lookupApart}
+use Rattle.tree.specs.Tree.{Tree, member}
+use Rattle.tree.specs.Answers.{Value, pose}
+use Rattle.tree.specs.Path.{Hop, chain, until, any, side, connected, hops, known, ask, fold, joined, lookupAlong, lookupApart}
 use Rattle.registry.specs.Walks.{hopsTo, AreTops, composedReply, askKnown, AskedBy}
-use Rattle.registry.proofs.Paths.{connected-sym}
+use Rattle.tree.proofs.Paths.{connected-sym}
 
 -- ---- without a path
 

@@ -1,12 +1,11 @@
 -- What the tests of 1 and 2 make of a call on a store that is lent.
-use Prim.Native.Nat.{ℕ}
 use mathlib.Core.Path.{_≡_}
 use mathlib.Core.Bool.{true, false}
 use Rattle.time.specs.Reply.{Reply, refusal, nothing}
-use Rattle.registry.specs.Tree.{Tree, Limits}
-use Rattle.registry.specs.Store.{Store, limitsOf, treeOf, sized}
-use Rattle.registry.specs.Sound.{sound}
-use Rattle.registry.specs.Calls.{onTree}
+use Rattle.tree.specs.Tree.{Tree, Limits}
+use Rattle.tree.specs.Store.{Store, limitsOf, treeOf, sized}
+use Rattle.tree.specs.Sound.{sound}
+use Rattle.tree.specs.Calls.{onTree}
 use Rattle.registry.specs.Checks.{SoundStore}
 
 module _ {A : Type 0} (s : Store) (call : Limits → Tree → Reply A) where

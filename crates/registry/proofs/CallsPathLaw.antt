@@ -1,31 +1,31 @@
 -- The path law of the calls on lent words, from that of trees.
 use Prim.Native.Nat.{ℕ}
 use mathlib.Core.Path.{_≡_, sym, ap, _∙_}
-use mathlib.Core.Bool.{true, not}
-use lib.ListN.{length}
+use mathlib.Core.Bool.{not}
 use borrow.Author.Tests.{not-false}
 use Rattle.time.specs.Reply.{Reply, answer, nothing}
-use Rattle.registry.specs.Tree.{Tree, Limits, add, wipe}
-use Rattle.registry.specs.Store.{Store, encode, treeOf, limitsOf, sized}
-use Rattle.registry.specs.Sound.{sound}
-use Rattle.registry.specs.Answers.{Value, done}
-use Rattle.registry.specs.Calls.{onTree, addOf, wipeOf, lookupOf, commonTimeOf}
+use Rattle.tree.specs.Tree.{Tree, Limits, add, wipe}
+use Rattle.tree.specs.Store.{Store, encode, treeOf, limitsOf, sized}
+use Rattle.tree.specs.Sound.{sound}
+use Rattle.tree.specs.Answers.{done}
+use Rattle.tree.specs.Calls.{onTree, addOf, wipeOf, lookupOf, commonTimeOf}
 use Rattle.registry.specs.Checks.{SoundStore}
-use Rattle.registry.specs.History.{isAnswer}
-use Rattle.registry.specs.Laws.{InRange, SoundTree}
-use Rattle.registry.specs.Path.{lookup, commonTime}
-use Rattle.registry.specs.PathLaws.{SameAnswers, SameReplies, CallsPathLaw, CallsPathLawWipe}
-use Rattle.registry.proofs.Accepted.{refuse-answered}
-use Rattle.registry.proofs.Runs.{writtenTo, written-answered, on-tree}
-use Rattle.registry.proofs.StoreBack.{limits-back, tree-back}
-use Rattle.registry.proofs.SoundEdges.{sound-fits}
-use Rattle.registry.proofs.SoundParts.{sound-sizes, sound-rules}
-use Rattle.registry.proofs.SoundIsEncoded.{sound-tree}
-use Rattle.registry.proofs.EncodedIsSound.{encodedIsSound}
+use Rattle.tree.specs.History.{isAnswer}
+use Rattle.tree.specs.Laws.{InRange, SoundTree}
+use Rattle.tree.specs.Path.{lookup, commonTime}
+use Rattle.tree.specs.PathLaws.{SameAnswers, SameReplies, CallsPathLaw, CallsPathLawWipe}
+use Rattle.tree.proofs.Accepted.{refuse-answered}
+use Rattle.tree.proofs.Runs.{writtenTo, written-answered, on-tree}
+use Rattle.tree.proofs.StoreBack.{tree-back}
+use Rattle.tree.proofs.SoundEdges.{sound-fits}
+use Rattle.tree.proofs.SizeLaws.{sized-is}
+use Rattle.tree.proofs.Rules.{sound-is}
+use Rattle.tree.proofs.SoundIsEncoded.{sound-tree}
+use Rattle.tree.proofs.EncodedIsSound.{encodedIsSound}
 use Rattle.registry.proofs.Called.{call-sound}
-use Rattle.registry.proofs.AddKeepsSound.{addKeepsSound}
-use Rattle.registry.proofs.WipeKeepsSound.{wipeKeepsSound}
-use Rattle.registry.proofs.PathLaw.{pathLaw, pathLawWipe}
+use Rattle.tree.proofs.AddKeepsSound.{addKeepsSound}
+use Rattle.tree.proofs.WipeKeepsSound.{wipeKeepsSound}
+use Rattle.tree.proofs.PathLaw.{pathLaw, pathLawWipe}
 
 -- a call that is answered found the store sound
 answered-sound : {A : Type 0} (s : Store) (call : Limits → Tree → Reply A) (v : A) → onTree s call ≡ answer v → SoundStore s
@@ -39,10 +39,10 @@ answered-sound s call v e =
 module _ (s : Store) (h : SoundStore s) where
   range : InRange (limitsOf s .rows) (limitsOf s .places)
   unfolding limitsOf
-  range = sound-sizes s h .range
+  range = sized-is s .0 (h .sizes) .range
 
   tree : SoundTree (limitsOf s) (treeOf s)
-  tree = sound-tree s (sound-sizes s h) (sound-rules s h)
+  tree = sound-tree s (sized-is s .0 (h .sizes)) (sound-is s .0 (h .rules))
 
   -- a question of the words of a sound tree
   asked-encoded : {A : Type 0} (u : Tree) → SoundTree (limitsOf s) u → (ask : Tree → Reply A) → onTree (encode (limitsOf s) u) (λ L t. ask t) ≡ ask u

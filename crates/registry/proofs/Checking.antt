@@ -14,13 +14,13 @@ use Rattle.buffer.specs.declared.kind.Kind.{Kind}
 use Rattle.buffer.specs.Row.{rowSound}
 use Rattle.registry.specs.declared.check.Checked.{Checked}
 use Rattle.registry.specs.declared.check.Checked.the-variants as checked
-use Rattle.registry.specs.Store.{Store, rowsIn, placesIn, usedIn, ageIn, kindOfWord, rowWord, sized}
-use Rattle.registry.specs.Sound.{rowsSound, unusedRowsZero, sound}
+use Rattle.tree.specs.Store.{Store, rowsIn, placesIn, usedIn, ageIn, kindOfWord, rowWord, sized}
+use Rattle.tree.specs.Sound.{rowsSound, unusedRowsZero, sound}
 use Rattle.registry.specs.Rows.{UsedParts, headSound}
 use Rattle.registry.specs.Checks.{RowPart, rowRules, SoundStore, Checks}
 use Rattle.registry.proofs.check.Checked.{the-type}
-use Rattle.registry.proofs.SizeLaws.{sized-is}
-use Rattle.registry.proofs.Everys.{and-parts}
+use Rattle.tree.proofs.SizeLaws.{sized-is}
+use Rattle.tree.proofs.Everys.{and-parts}
 
 -- the parts that the code lends are the row's
 pub row-rules-are : (s : Store) (r : ℕ) (b : Bool) (age : Option ℕ) (kind : Kind) (count : ℕ) → age ≡ ageIn s → kind ≡ kindOfWord (rowWord s r 2) → count ≡ rowWord s r 3
@@ -72,6 +72,10 @@ module _ (s : Store) where
   pub all-rules : (b : Bool) → headSound s ≡ true → rowsSound s ≡ true → unusedRowsZero s ≡ b → sound s ≡ b
   unfolding sound
   all-rules b e f g = ap (λ b. b && rowsSound s && unusedRowsZero s) e ∙ ap (λ b. b && unusedRowsZero s) f ∙ g
+
+pub sound-parts : (s : Store) → SoundStore s → UsedParts s
+unfolding sound
+sound-parts s ok = parts-used s (ok .sizes) (and-parts _ _ (and-parts _ _ (ok .rules) .0) .0)
 
 -- what is neither refused as 1 nor as 2
 pub checked-sound : (s : Store) (r : Checked) → OneOf (1 ∷ 2 ∷ []) (tagOf the-type r) → OneOf (0 ∷ 2 ∷ []) (tagOf the-type r) → Checks s r → SoundStore s

@@ -8,9 +8,9 @@ use native.Mathlib.Omega.{arith}
 use lib.Ieee.{Float}
 use borrow.Author.Tests.{eq-eqb, ne-eqb}
 use Rattle.buffer.specs.Map.{get}
-use Rattle.registry.specs.Tree.{Edge, Tree, above, ancestors, member}
-use Rattle.registry.specs.Store.{rowWord, treeOf}
-use Rattle.registry.specs.Calls.{storeOf}
+use Rattle.tree.specs.Tree.{Edge, Tree, above, ancestors, member}
+use Rattle.tree.specs.Store.{rowWord, treeOf}
+use Rattle.tree.specs.Calls.{storeOf}
 use Rattle.registry.specs.Rows.{headOf, RisingRows, IsRow, IsAbsent}
 use Rattle.registry.proofs.TreeRows.{length-tree, get-found, get-absent}
 

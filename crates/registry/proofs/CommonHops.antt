@@ -1,19 +1,17 @@
 -- Narrowing hop by hop gives the latest common time of the hops, and of two frames from where the climbs from them end.
-use Prim.Native.Nat.{ℕ, min}
+use Prim.Native.Nat.{ℕ}
 use mathlib.Core.Path.{_≡_, refl, sym, ap, _∙_}
-use mathlib.Core.Bool.{true}
 use mathlib.Core.Option.{none, some}
 use mathlib.Core.List.{List, [], _∷_, _++_}
-use lib.Dec.{eqb}
 use borrow.Author.Tests.{eq-eqb, ne-eqb}
 use Rattle.time.specs.Reply.{Reply, answer, refusal, nothing, _then_}
 use Rattle.buffer.specs.declared.coverage.Coverage.{Coverage}
 use Rattle.buffer.specs.declared.coverage.Coverage.the-variants.{AllTime, Range, Empty}
 use Rattle.buffer.specs.Samples.{coverage}
 use Rattle.registry.specs.declared.common.Narrowed.{Narrowed}
-use Rattle.registry.specs.Tree.{Tree}
-use Rattle.registry.specs.Answers.{Value}
-use Rattle.registry.specs.Path.{Hop, Span, spanThen, spans, earliestEnd, latestStart, meet}
+use Rattle.tree.specs.Tree.{Tree}
+use Rattle.tree.specs.Answers.{Value}
+use Rattle.tree.specs.Path.{Hop, Span, spanThen, spans, earliestEnd, latestStart, meet}
 use Rattle.registry.specs.Walks.{hopsTo, AreTops, askKnown, Sofar, narrow, narrowBy, narrowed, agreed, narrowedReply}
 use Rattle.registry.proofs.AskTops.{ask-tops}
 

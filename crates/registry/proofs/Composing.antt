@@ -8,8 +8,8 @@ use Rattle.geometry.specs.declared.isometry.Isometry.{Isometry}
 use Rattle.buffer.specs.declared.get.Got.{Got}
 use Rattle.buffer.specs.Samples.{served}
 use Rattle.buffer.specs.Answers.{gotReply}
-use Rattle.registry.specs.Store.{Store, rowAt, treeOf}
-use Rattle.registry.specs.Path.{Hop, onto, fold}
+use Rattle.tree.specs.Store.{Store, rowAt, treeOf}
+use Rattle.tree.specs.Path.{Hop, onto, fold}
 use Rattle.registry.specs.Rows.{IsRow, IsAbsent}
 use Rattle.registry.specs.Walks.{hopsTo, Posed}
 use Rattle.registry.proofs.SideHops.{hops-end, hops-found, hops-absent}

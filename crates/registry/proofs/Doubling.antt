@@ -1,37 +1,36 @@
 -- Climbs from all rows at once: one step, twice as many, and with as many as there are rows every climb has ended exactly where there is no circle.
-use Prim.Native.Nat.{ℕ, zero, suc, _+_, _-_, _*_, _≤_, _<_}
+use Prim.Native.Nat.{ℕ, zero, suc, _+_, _*_, _≤_, _<_}
 use mathlib.Core.Path.{_≡_, refl, sym, ap, _∙_, subst}
 use mathlib.Core.Bool.{Bool, true, false, _||_}
-use mathlib.Core.Option.{Option, none, some}
-use mathlib.Core.Logic.{⊎-elim}
-use mathlib.Core.List.{List, [], _∷_}
-use native.Mathlib.Nat.{zero-add, suc-add, eq-or-lt-of-le}
+use mathlib.Core.Option.{none, some}
+use mathlib.Core.List.{List}
+use native.Mathlib.Nat.{zero-add, suc-add}
 use native.Mathlib.Omega.{arith}
 use lib.ListN.{length, getD, set, length-set}
 use lib.Seq.{getD-set-same, getD-set-other}
 use lib.Dec.{eqb, leb, ltb}
 use lib.Ieee.{Float}
-use borrow.Author.Tests.{lt-ltb, le-ltb, eq-eqb, eqb-true, eqb-false, le-leb, leb-true, leb-false, ltb-true, ltb-false}
-use Rattle.buffer.specs.Map.{all, get, rising}
-use Rattle.buffer.proofs.Cases.{both, none-some, false-true, bool-ext, Tri, less, same, more, tri}
+use borrow.Author.Tests.{eq-eqb, eqb-true, eqb-false, leb-true, leb-false, ltb-true, ltb-false}
+use Rattle.buffer.specs.Map.{all, get}
+use Rattle.buffer.proofs.Cases.{both, none-some, false-true, bool-ext}
 use Rattle.buffer.proofs.Maps.{Rising}
 use Rattle.buffer.proofs.Alls.{all-at}
-use Rattle.registry.specs.Tree.{Edge, Tree, above, member}
-use Rattle.registry.specs.Store.{usedIn, rowWord, rowAt, treeOf}
-use Rattle.registry.specs.Sound.{climb, noCircle, NotAboveItself}
-use Rattle.registry.specs.Calls.{storeOf}
+use Rattle.tree.specs.Tree.{Edge, Tree, above, member}
+use Rattle.tree.specs.Store.{rowWord, rowAt, treeOf}
+use Rattle.tree.specs.Sound.{climb, noCircle, NotAboveItself}
+use Rattle.tree.specs.Calls.{storeOf}
 use Rattle.registry.specs.Rows.{headOf, childAt, RisingRows, IsRow, IsAbsent, IsUp, Climbed, onward, moveOn, movedOn}
-use Rattle.registry.proofs.Climbing.{edge-or, Grounded, climb-none, apart-grounded}
-use Rattle.registry.proofs.NoCircle.{circle-grounded, grounded-circle}
+use Rattle.tree.proofs.Climbing.{edge-or, climb-none, climb-more, apart-grounded}
+use Rattle.tree.proofs.NoCircle.{circle-grounded, grounded-circle}
 use Rattle.registry.proofs.TreeRows.{length-tree, tree-rises, get-found, row-of, get-absent}
 
 -- ---- climbs
 
 module _ (t : Tree) where
-  pub climb-up : (n f : ℕ) (e : Edge) → get t f ≡ some e → climb (suc n) t f ≡ climb n t (e .parent)
+  climb-up : (n f : ℕ) (e : Edge) → get t f ≡ some e → climb (suc n) t f ≡ climb n t (e .parent)
   climb-up n f e q = rw q
 
-  pub climb-add : (m k f : ℕ) → climb k t (climb m t f) ≡ climb (m + k) t f
+  climb-add : (m k f : ℕ) → climb k t (climb m t f) ≡ climb (m + k) t f
   climb-add zero k f = rw zero-add
   climb-add (suc m) k f =
       edge-or (get t f)
@@ -39,10 +38,8 @@ module _ (t : Tree) where
       (λ e q. ap (climb k t) (climb-up m f e q) ∙ climb-add m k (e .parent) ∙ sym (climb-up (m + k) f e q) ∙ ap (λ (n : ℕ). climb n t f) (sym (suc-add m k)))
 
   -- a climb that has ended stays
-  pub climb-past : (m k f : ℕ) → m ≤ k → get t (climb m t f) ≡ none → get t (climb k t f) ≡ none
-  climb-past m k f l e =
-      let q : m + (k - m) ≡ k = omega arith in
-      ap (λ (n : ℕ). get t (climb n t f)) (sym q) ∙ ap (get t) (sym (climb-add m (k - m) f) ∙ climb-none t (k - m) (climb m t f) e) ∙ e
+  climb-past : (m k f : ℕ) → m ≤ k → get t (climb m t f) ≡ none → get t (climb k t f) ≡ none
+  climb-past m k f l e = ap (get t) (climb-more t m k f l e) ∙ e
 
   -- who is above p has a parent above p
   above-parent : (k p f : ℕ) (e : Edge) → get t f ≡ some e → member f (above k t p) ≡ true → member (e .parent) (above (suc k) t p) ≡ true
@@ -75,7 +72,7 @@ module _ (t : Tree) where
       (λ s. above-parent k (e .parent) f e q (rw s at (rw q at m)))
 
   -- whose climb ends is not above itself
-  pub ends-apart : (n f : ℕ) → get t (climb n t f) ≡ none → (k : ℕ) → member f (above k t f) ≡ false
+  ends-apart : (n f : ℕ) → get t (climb n t f) ≡ none → (k : ℕ) → member f (above k t f) ≡ false
   ends-apart n f h zero = refl
   ends-apart zero f h (suc k) = rw h
   ends-apart (suc n) f h (suc k) =

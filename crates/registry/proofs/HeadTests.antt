@@ -1,25 +1,25 @@
 -- The tests of the head's rows and age, and the clauses of `sound` that they decide.
-use Prim.Native.Nat.{ℕ, zero, suc, _+_, _-_, _^_, _≤_, _<_}
+use Prim.Native.Nat.{ℕ, zero, suc, _-_, _^_, _≤_, _<_}
 use mathlib.Core.Path.{_≡_, refl, sym, ap, _∙_}
-use mathlib.Core.Bool.{Bool, true, false, not, _&&_, _||_}
+use mathlib.Core.Bool.{Bool, true, false, not, _&&_}
 use mathlib.Core.List.{List}
 use native.Mathlib.Omega.{arith}
 use lib.Dec.{eqb, ltb, leb}
 use lib.Ieee.{Float}
-use lib.ListN.{length, getD}
+use lib.ListN.{getD}
 use borrow.Author.Tests.{lt-ltb, le-ltb, le-leb, lt-leb, eq-eqb, ne-eqb, eqb-true, eqb-false}
 use Rattle.buffer.specs.Map.{all, rising}
-use Rattle.buffer.proofs.Cases.{both, false-true, bool-ext, and-both, and-left, and-right}
+use Rattle.buffer.proofs.Cases.{both, bool-ext, and-both}
 use Rattle.buffer.proofs.Maps.{rising-is}
 use Rattle.buffer.proofs.Alls.{all-at}
-use Rattle.registry.specs.Tree.{Edge}
-use Rattle.registry.specs.Store.{Store, rowsIn, usedIn, rowWord, rowAt, treeOf}
-use Rattle.registry.specs.Sound.{every, framesFit, parentsDiffer, noCircle, namedValues}
-use Rattle.registry.specs.Calls.{storeOf}
+use Rattle.tree.specs.Tree.{Edge}
+use Rattle.tree.specs.Store.{Store, rowsIn, usedIn, rowWord, rowAt, treeOf}
+use Rattle.tree.specs.Sound.{every, framesFit, parentsDiffer, noCircle}
+use Rattle.tree.specs.Calls.{storeOf}
 use Rattle.registry.specs.Rows.{headOf, childAt, UsedRows, RisingRows, rowFits, ageNamed, headSound}
-use Rattle.registry.proofs.Everys.{every-is, all-tabulate}
-use Rattle.registry.proofs.StoreBack.{blank}
-use Rattle.registry.proofs.TreeRows.{length-tree, tree-row, ChildrenRise, tree-rises}
+use Rattle.tree.proofs.Everys.{every-is}
+use Rattle.tree.proofs.StoreBack.{blank}
+use Rattle.registry.proofs.TreeRows.{length-tree, tree-row, tree-rises}
 
 -- ---- children that rise
 
@@ -44,9 +44,6 @@ module _ (h : List ℕ) (n : ℕ) (used : UsedRows n h) where
       let w = tree-rises s n (used .held) .1 (rising-is (treeOf s) .0 e) (r - 1) r (omega arith) l in
       absurd (omega arith))
       (λ e. sym e)
-
-  pub neighbours-rows : Neighbours h n → RisingRows n h
-  neighbours-rows b = record { rows = used; rises = neighbours-rise h n b }
 
   pub rise-all : Neighbours h n → (i : List ℕ) (p : List Float) → true ≡ rising (treeOf (storeOf h i p))
   rise-all b i p = let s = storeOf h i p in sym (rising-is (treeOf s) .1 (tree-rises s n (used .held) .0 (neighbours-rise h n b)))

@@ -10,16 +10,16 @@ use lib.Dec.{eqb}
 use borrow.Author.Tests.{eq-eqb, ne-eqb, eqb-true}
 use Rattle.buffer.specs.Map.{get}
 use Rattle.buffer.proofs.Cases.{both, false-true, bool-ext}
-use Rattle.registry.specs.Tree.{Edge, Tree, ancestors, member}
-use Rattle.registry.specs.Store.{treeOf}
-use Rattle.registry.specs.Sound.{climb, noCircle}
-use Rattle.registry.specs.Calls.{storeOf}
-use Rattle.registry.specs.Path.{Hop, chain, until, any, side, connected, hopThen, hops}
+use Rattle.tree.specs.Tree.{Edge, Tree, ancestors, member}
+use Rattle.tree.specs.Store.{treeOf}
+use Rattle.tree.specs.Sound.{climb, noCircle}
+use Rattle.tree.specs.Calls.{storeOf}
+use Rattle.tree.specs.Path.{Hop, chain, until, any, side, connected, hopThen, hops}
 use Rattle.registry.specs.Rows.{RisingRows}
 use Rattle.registry.specs.Walks.{OfTree, hopsTo, AreTops}
-use Rattle.registry.proofs.Climbing.{edge-or, Grounded, grounded-ranked, above-lower}
-use Rattle.registry.proofs.Ancestors.{ancestors-none, ancestors-some}
-use Rattle.registry.proofs.Paths.{connected-sym, side-same}
+use Rattle.tree.proofs.Climbing.{edge-or, Grounded, grounded-ranked, above-lower}
+use Rattle.tree.proofs.Ancestors.{ancestors-none, ancestors-some}
+use Rattle.tree.proofs.Paths.{connected-sym, side-same}
 use Rattle.registry.proofs.SideHops.{chain-up, hops-end, hops-up, hops-root, grounded}
 
 until-same : (p q : ℕ → Bool) (xs : List ℕ) → ((x : ℕ) → member x xs ≡ true → p x ≡ q x) → until p xs ≡ until q xs

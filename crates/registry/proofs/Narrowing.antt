@@ -1,15 +1,14 @@
 -- What the hops of a path have in common, narrowed while climbing: what is left of the climb decides.
 use Prim.Native.Nat.{ℕ}
-use mathlib.Core.Path.{_≡_, refl, sym, ap, subst, _∙_}
-use mathlib.Core.List.{List, [], _∷_}
+use mathlib.Core.Path.{_≡_, sym, ap, subst, _∙_}
+use mathlib.Core.List.{List, []}
 use lib.Ieee.{Float}
 use Rattle.time.specs.Reply.{answer, _then_}
 use Rattle.buffer.specs.declared.coverage.Coverage.{Coverage}
 use Rattle.buffer.specs.Samples.{coverage}
 use Rattle.registry.specs.declared.common.Narrowed.{Narrowed}
-use Rattle.registry.specs.Store.{Store, rowWord, rowAt, treeOf}
-use Rattle.registry.specs.Calls.{storeOf}
-use Rattle.registry.specs.Path.{Hop}
+use Rattle.tree.specs.Store.{rowWord, rowAt, treeOf}
+use Rattle.tree.specs.Calls.{storeOf}
 use Rattle.registry.specs.Rows.{headOf, IsRow, IsAbsent}
 use Rattle.registry.specs.Walks.{hopsTo, Walkable, Sofar, narrowBy, narrowed, narrowedReply}
 use Rattle.registry.proofs.SideHops.{hops-end, hops-found, hops-absent}

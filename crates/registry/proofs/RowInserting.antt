@@ -15,8 +15,8 @@ use Rattle.buffer.specs.declared.kind.Kind.{Kind}
 use Rattle.buffer.specs.declared.kind.Kind.the-variants.{Static, Dynamic}
 use Rattle.buffer.specs.Words.{movedUp, replaced, inserted}
 use Rattle.buffer.proofs.Moves.{length-up, put-replaced, up-put}
-use Rattle.registry.specs.Store.{Store, kindWord, ageOf, kindOfWord, placesIn, usedIn}
-use Rattle.registry.specs.Calls.{storeOf}
+use Rattle.tree.specs.Store.{Store, kindWord, ageOf, kindOfWord, placesIn, usedIn}
+use Rattle.tree.specs.Calls.{storeOf}
 use Rattle.registry.specs.Rows.{emptyRow, rowInserted, withRow}
 
 -- ---- words read back

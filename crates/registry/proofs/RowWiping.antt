@@ -1,39 +1,36 @@
 -- What a wipe leaves: every word as it was, or the words of the tree with one row wiped.
-use Prim.Native.Nat.{ℕ, _+_, _-_, _*_, _≤_, _<_}
+use Prim.Native.Nat.{ℕ, _+_, _*_, _≤_, _<_}
 use mathlib.Core.Path.{_≡_, refl, sym, ap, _∙_}
 use mathlib.Core.Bool.{true, false}
 use mathlib.Core.List.{List}
 use mathlib.Core.Option.{none, some}
 use native.Mathlib.Omega.{arith}
 use lib.Ieee.{Float}
-use lib.ListN.{length, set, take, drop}
+use lib.ListN.{length, set}
 use borrow.Rule.Slice.PartMut.{putMid}
 use Rattle.time.specs.Reply.{answer, refusal, nothing, frame}
 use Rattle.buffer.specs.declared.kind.Kind.{Kind}
 use Rattle.buffer.specs.Map.{get, put}
-use Rattle.buffer.specs.Words.{replaced}
 use Rattle.buffer.specs.Samples.{Samples, removeBefore}
-use Rattle.buffer.specs.Row.{RowOutcome, FloatsFit, Row, samplesOf, instantWords, poseWords, removeBeforeRow}
+use Rattle.buffer.specs.Row.{FloatsFit, samplesOf, removeBeforeRow}
 use Rattle.buffer.specs.Row as row
 use Rattle.buffer.proofs.Maps.{rising-is}
-use Rattle.buffer.proofs.Moves.{put-replaced}
-use Rattle.buffer.proofs.RowBack.{length-samplesOf, length-instantWords, length-poseWords}
+use Rattle.buffer.proofs.RowBack.{length-samplesOf}
 use Rattle.buffer.proofs.SampleLaws.{length-removeBefore-le}
-use Rattle.registry.specs.Tree.{Edge, Tree, Limits, wiped, wipe}
-use Rattle.registry.specs.Store.{Store, encode, placesIn, usedIn, kindOfWord, rowWord, rowInstants, rowPoses, rowAt, treeOf, limitsOf, sized}
-use Rattle.registry.specs.Sound.{sound}
-use Rattle.registry.specs.Answers.{done}
-use Rattle.registry.specs.Calls.{outcome, storeOf, written, wipeOf}
-use Rattle.registry.specs.Rows.{IsRow, IsAbsent}
+use Rattle.tree.specs.Tree.{Edge, wiped, wipe}
+use Rattle.tree.specs.Store.{Store, encode, placesIn, usedIn, kindOfWord, rowWord, rowInstants, rowPoses, rowAt, treeOf, limitsOf, sized}
+use Rattle.tree.specs.Sound.{sound}
+use Rattle.tree.specs.Answers.{done}
+use Rattle.tree.specs.Calls.{outcome, written, wipeOf}
+use Rattle.registry.specs.Rows.{IsAbsent}
 use Rattle.registry.specs.Checks.{SoundStore}
 use Rattle.registry.proofs.Called.{call-sizes, call-unsound, call-sound}
-use Rattle.registry.proofs.StoreBack.{Fits}
-use Rattle.registry.proofs.StoreRows.{instants-long}
-use Rattle.registry.proofs.SoundEdges.{sound-fits}
-use Rattle.registry.proofs.SoundIsEncoded.{soundIsEncoded}
-use Rattle.registry.proofs.SoundParts.{sound-sizes, sound-rules, rising-rows, row-of}
-use Rattle.registry.proofs.TreeRows.{length-tree, tree-row, get-found, get-absent}
-use Rattle.registry.proofs.EncodePut.{holding, put-held}
+use Rattle.tree.proofs.StoreRows.{instants-long}
+use Rattle.tree.proofs.SizeLaws.{sized-is}
+use Rattle.tree.proofs.Rules.{sound-is}
+use Rattle.registry.proofs.SoundStore.{sound-rows, tree-fits, sound-held}
+use Rattle.registry.proofs.TreeRows.{get-found, get-absent}
+use Rattle.registry.proofs.RowHolding.{first, wide, sevens, lentInstants, lentPoses, instants-lent, poses-lent, row-holding}
 
 -- ---- refusals 1, 2 and 9
 
@@ -63,74 +60,36 @@ module _ (s : Store) (f i : ℕ) where
     pub wipe-absent : (k : ℕ) → IsAbsent (usedIn s) (s .head) f k → outcome (refusal 9 (frame f)) (s .head) (s .instants) (s .poses) ≡ wipeOf s f i
     wipe-absent k absent = wipe-none (get-absent s (usedIn s) refl f k absent)
 
--- ---- row r of a sound store
+-- ---- row r of a sound store, by what the row layer leaves in its parts
 
 module _ (s : Store) (h : SoundStore s) (r : ℕ) (l : r < usedIn s) where
-  -- with other samples
-  row-holding : FloatsFit (s .poses) → (m : Samples) → length m ≤ placesIn s
-      → (let S = placesIn s in
-      storeOf
-      (set (s .head) (5 + 4 * r + 3) (length m))
-      (replaced (r * S) (instantWords S m) (s .instants))
-      (replaced (7 * (r * S)) (poseWords S m) (s .poses))
-      ≡ encode (limitsOf s) (put (rowAt s r .0) (holding (rowAt s r) m .1) (treeOf s)))
-  unfolding limitsOf
-  row-holding fit m few =
-      let S = placesIn s in
-      let e = soundIsEncoded s fit (h .sizes) (h .rules) in
-      let fits : Fits (limitsOf s) (treeOf s) = sound-fits (limitsOf s) (treeOf s) (sound-sizes s h .range .somePlaces) (e .1) in
-      let at = tree-row s r l in
-      ap (λ (z : Store). storeOf (set (z .head) (5 + 4 * r + 3) (length m)) (replaced (r * S) (instantWords S m) (z .instants)) (replaced (7 * (r * S)) (poseWords S m) (z .poses))) (e .0)
-      ∙ put-held (limitsOf s) (treeOf s) fits (rising-is (treeOf s) .0 (e .1 .rises)) (rowAt s r .0) r (rw (length-tree s) l) (ap (λ (x : ℕ × Edge). x .0) at) m few
-      ∙ ap (λ (x : ℕ × Edge). encode (limitsOf s) (put (rowAt s r .0) (holding x m .1) (treeOf s))) at
-
-  -- its parts as the code lends them
-  abbrev lentInstants : List ℕ
-  lentInstants = let at = r * placesIn s in take (at + placesIn s - at) (drop at (s .instants))
-
-  abbrev lentPoses : List Float
-  lentPoses = let at = r * placesIn s in take (7 * at + 7 * placesIn s - 7 * at) (drop (7 * at) (s .poses))
-
-  instants-lent : lentInstants ≡ rowInstants s r
-  instants-lent = let S = placesIn s in let w : r * S + S - r * S ≡ S = omega arith in ap (λ (n : ℕ). take n (drop (r * S) (s .instants))) w
-
-  poses-lent : lentPoses ≡ rowPoses s r
-  poses-lent = let S = placesIn s in let w : 7 * (r * S) + 7 * S - 7 * (r * S) ≡ 7 * S = omega arith in ap (λ (n : ℕ). take n (drop (7 * (r * S)) (s .poses))) w
-
-  pub row-lent : (n : ℕ) → n ≡ rowWord s r 3 → Row n lentInstants lentPoses
-  row-lent n e = rw (e, instants-lent, poses-lent) (row-of s h r l)
-
-  answer-in : {A : Type 0} {v w : A} → answer v ≡ answer w → v ≡ w
-  answer-in e = cc e
-
-  pub row-wiped : FloatsFit (s .poses) → (i : ℕ) (kind : Kind) (n held place : ℕ) (is : List ℕ) (ps : List Float)
-      → kind ≡ kindOfWord (rowWord s r 2) → n ≡ rowWord s r 3 → place ≡ 5 + 4 * r + 3
-      → row.outcome (answer held) is ps ≡ removeBeforeRow kind i n lentInstants lentPoses
-      → (let at = r * placesIn s in
-      outcome (answer done) (set (s .head) place held) (putMid at (at + placesIn s - at) (s .instants) is) (putMid (7 * at) (7 * at + 7 * placesIn s - 7 * at) (s .poses) ps)
-      ≡ wipeOf s (rowWord s r 0) i)
+  pub row-wiped : FloatsFit (s .poses) → (i : ℕ) (kind : Kind) (count held place : ℕ) (ts : List ℕ) (fs : List Float)
+      → kind ≡ kindOfWord (rowWord s r 2) → count ≡ rowWord s r 3 → place ≡ 5 + 4 * r + 3
+      → row.outcome (answer held) ts fs ≡ removeBeforeRow kind i count (lentInstants s r) (lentPoses s r)
+      → outcome (answer done) (set (s .head) place held) (putMid (first s r) (wide s r) (s .instants) ts) (putMid (7 * first s r) (sevens s r) (s .poses) fs)
+      ≡ wipeOf s (rowWord s r 0) i
   unfolding removeBeforeRow
-  row-wiped fit i kind n held place is ps k c p e =
-      let S = placesIn s in
-      let at = r * S in
+  row-wiped fit i kind count held place ts fs k c p e =
+      let x = sound-held s h fit r l in
       let old = rowAt s r .1 .samples in
       let m : Samples = removeBefore (kindOfWord (rowWord s r 2)) i old in
-      let long = instants-long s (sound-sizes s h) (sound-rules s h) r l in
-      let few : length m ≤ S = omega (arith, length-removeBefore-le (kindOfWord (rowWord s r 2)) i old, length-samplesOf (rowWord s r 3) (rowInstants s r) (rowPoses s r), row-of s h r l .fits, long) in
-      let left : row.outcome (answer held) is ps ≡ row.holding S m =
+      let long = instants-long s (sized-is s .0 (h .sizes)) (sound-is s .0 (h .rules)) r l in
+      let few : length m ≤ placesIn s =
+      omega (
+        arith,
+        length-removeBefore-le (kindOfWord (rowWord s r 2)) i old,
+        length-samplesOf (rowWord s r 3) (rowInstants s r) (rowPoses s r),
+        x .row .fits,
+        long,
+      )
+      in
+      let left : row.outcome (answer held) ts fs ≡ row.holding (placesIn s) m =
       e
-      ∙ (λ j. row.holding (length (instants-lent j)) (removeBefore (k j) i (samplesOf (c j) (instants-lent j) (poses-lent j))))
+      ∙ (λ j. row.holding (length (instants-lent s r j)) (removeBefore (k j) i (samplesOf (c j) (instants-lent s r j) (poses-lent s r j))))
       ∙ ap (λ (w : ℕ). row.holding w m) long
       in
-      let w : at + S - at ≡ S = omega arith in
-      let v : 7 * at + 7 * S - 7 * at ≡ 7 * S = omega arith in
-      let count : held ≡ length m = answer-in (ap (λ (o : RowOutcome). o .count) left) in
-      let ts : putMid at (at + S - at) (s .instants) is ≡ replaced at (instantWords S m) (s .instants) =
-      (λ j. putMid at (w j) (s .instants) (left j .instants)) ∙ put-replaced at S (instantWords S m) (s .instants) (length-instantWords S m few)
+      let words =
+      row-holding s r (x .words) (tree-fits s h) (rising-is (treeOf s) .0 (x .rises)) l m few held place ts fs left p
       in
-      let fs : putMid (7 * at) (7 * at + 7 * S - 7 * at) (s .poses) ps ≡ replaced (7 * at) (poseWords S m) (s .poses) =
-      (λ j. putMid (7 * at) (v j) (s .poses) (left j .poses)) ∙ put-replaced (7 * at) (7 * S) (poseWords S m) (s .poses) (length-poseWords S m few)
-      in
-      (λ j. outcome (answer done) (set (s .head) (p j) (count j)) (ts j) (fs j))
-      ∙ (λ j. record { reply = answer done; store = row-holding fit m few j })
-      ∙ wipe-some s (rowWord s r 0) i h (rowAt s r .1) (get-found s (usedIn s) refl (rising-rows s h .rises) (rowWord s r 0) r (record { used = l; child = refl }))
+      (λ j. record { reply = answer done; store = words j })
+      ∙ wipe-some s (rowWord s r 0) i h (rowAt s r .1) (get-found s (usedIn s) refl (sound-rows s h .rises) (rowWord s r 0) r (record { used = l; child = refl }))

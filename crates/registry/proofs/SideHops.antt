@@ -10,15 +10,15 @@ use lib.Dec.{eqb}
 use borrow.Author.Tests.{eq-eqb, ne-eqb}
 use Rattle.buffer.specs.Map.{get}
 use Rattle.buffer.proofs.Cases.{both}
-use Rattle.registry.specs.Tree.{Edge, Tree, ancestors}
-use Rattle.registry.specs.Store.{Store, rowAt, treeOf}
-use Rattle.registry.specs.Sound.{noCircle}
-use Rattle.registry.specs.Path.{Hop, chain, until, hops}
+use Rattle.tree.specs.Tree.{Edge, Tree, ancestors}
+use Rattle.tree.specs.Store.{Store, rowAt, treeOf}
+use Rattle.tree.specs.Sound.{noCircle}
+use Rattle.tree.specs.Path.{Hop, chain, until, hops}
 use Rattle.registry.specs.Rows.{RisingRows, IsRow, IsAbsent}
 use Rattle.registry.specs.Walks.{OfTree, hopsTo}
-use Rattle.registry.proofs.Climbing.{Grounded}
-use Rattle.registry.proofs.Ancestors.{ancestors-none, ancestors-some}
-use Rattle.registry.proofs.NoCircle.{circle-grounded}
+use Rattle.tree.proofs.Climbing.{Grounded}
+use Rattle.tree.proofs.Ancestors.{ancestors-none, ancestors-some}
+use Rattle.tree.proofs.NoCircle.{circle-grounded}
 use Rattle.registry.proofs.TreeRows.{tree-rises, get-found, get-absent}
 
 pub hops-end : (t : Tree) (f : ℕ) → hopsTo t f f ≡ []

@@ -14,18 +14,19 @@ use Rattle.buffer.proofs.Alls.{all-at}
 use Rattle.buffer.proofs.Maps.{Rising, rising-is}
 use Rattle.buffer.proofs.RowBack.{words-row}
 use Rattle.buffer.proofs.SoundRows.{sound-row}
-use Rattle.registry.specs.Tree.{Edge, Tree, Limits}
-use Rattle.registry.specs.Store.{Store, encode, treeOf, limitsOf, rowsIn, placesIn, usedIn, ageIn, rowWord, rowInstants, rowPoses, rowAt}
+use Rattle.tree.specs.Tree.{Edge, Tree, Limits}
+use Rattle.tree.specs.Store.{Store, encode, treeOf, limitsOf, rowsIn, placesIn, usedIn, ageIn, rowWord, rowInstants, rowPoses, rowAt}
 use Rattle.registry.specs.Rows.{RisingRows}
 use Rattle.registry.specs.Checks.{RowPart, SoundStore}
 use Rattle.registry.specs.Adding.{HeldRow}
-use Rattle.registry.proofs.SizeLaws.{Sizes, sized-is}
-use Rattle.registry.proofs.Rules.{Rules, sound-is}
-use Rattle.registry.proofs.StoreBack.{Fits, blank, limits-back, length-head, length-instants, length-poses, word-back, instants-back, poses-back, tree-back}
-use Rattle.registry.proofs.StoreRows.{instants-long, poses-long, row-sound}
-use Rattle.registry.proofs.SoundIsEncoded.{soundIsEncoded, sound-tree}
-use Rattle.registry.proofs.SoundEdges.{sound-fits}
+use Rattle.tree.proofs.SizeLaws.{Sizes, sized-is}
+use Rattle.tree.proofs.Rules.{Rules, sound-is}
+use Rattle.tree.proofs.StoreBack.{Fits, blank, limits-back, length-head, length-instants, length-poses, word-back, instants-back, poses-back, tree-back}
+use Rattle.tree.proofs.StoreRows.{instants-long, poses-long, row-sound}
+use Rattle.tree.proofs.SoundIsEncoded.{soundIsEncoded, sound-tree}
+use Rattle.tree.proofs.SoundEdges.{sound-fits}
 use Rattle.registry.proofs.TreeRows.{length-tree, tree-row}
+use Rattle.registry.proofs.Checking.{used-part, sound-parts}
 use Rattle.registry.proofs.HeadTests.{rising-rows}
 
 -- ---- a store that is sound
@@ -40,17 +41,11 @@ module _ (s : Store) (ok : SoundStore s) where
   pub sound-rows : RisingRows (usedIn s) (s .head)
   sound-rows =
       rising-rows (s .head) (usedIn s)
-      (record { held = refl; within = let f = rules .few in let h = sizes .head in omega arith })
+      (record { held = refl; within = sound-parts s ok .head })
       (s .instants) (s .poses) (rules .rises)
 
   pub sound-part : (r : ℕ) → r < usedIn s → RowPart r s
-  sound-part r l =
-      let f = rules .few in
-      let h = sizes .head in
-      let i = sizes .instants in
-      let p = sizes .poses in
-      let m : r * placesIn s + placesIn s ≤ rowsIn s * placesIn s = rw (← suc-mul r (placesIn s)) (mul-le-mul-right (placesIn s) (let z : suc r ≤ rowsIn s = omega arith in z)) in
-      record { head = omega arith; instants = omega arith; poses = omega arith }
+  sound-part r l = used-part s r (sound-parts s ok) l
 
   pub sound-row-words : (r : ℕ) → r < usedIn s → Row (rowWord s r 3) (rowInstants s r) (rowPoses s r)
   sound-row-words r l =

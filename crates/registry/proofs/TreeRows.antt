@@ -1,20 +1,18 @@
 -- The tree that a store holds, row by row: what a search of the head's rows says of `get`.
-use Prim.Native.Nat.{ℕ, zero, suc, _≤_, _<_}
+use Prim.Native.Nat.{ℕ, zero, suc, _<_}
 use mathlib.Core.Path.{_≡_, refl, sym, ap, _∙_}
 use mathlib.Core.Logic.{_↔_}
-use mathlib.Core.Bool.{true}
 use mathlib.Core.Option.{Option, none, some}
-use mathlib.Core.List.{List}
 use native.Mathlib.Omega.{arith}
 use lib.ListN.{length, getD}
-use Rattle.buffer.specs.Map.{get, rising}
-use Rattle.buffer.proofs.Maps.{Rising, rising-is}
-use Rattle.registry.specs.Tree.{Edge, Tree}
-use Rattle.registry.specs.Store.{Store, usedIn, rowAt, tabulate, treeOf}
-use Rattle.registry.specs.Rows.{childAt, UsedRows, RisingRows, IsRow, IsAbsent}
-use Rattle.registry.proofs.Everys.{length-tabulate}
-use Rattle.registry.proofs.MapRows.{KeysRise, rising-by-keys, get-at, get-place, Gap, get-gap}
-use Rattle.registry.proofs.StoreBack.{blank}
+use Rattle.buffer.specs.Map.{get}
+use Rattle.buffer.proofs.Maps.{Rising}
+use Rattle.tree.specs.Tree.{Edge}
+use Rattle.tree.specs.Store.{Store, usedIn, rowAt, tabulate, treeOf}
+use Rattle.registry.specs.Rows.{childAt, IsRow, IsAbsent}
+use Rattle.tree.proofs.Everys.{length-tabulate}
+use Rattle.tree.proofs.MapRows.{KeysRise, rising-by-keys, get-at, get-place, Gap, get-gap}
+use Rattle.tree.proofs.StoreBack.{blank}
 
 getD-tabulate : {A : Type 0} (n r : ℕ) (g : ℕ → A) (d : A) → r < n → getD (tabulate n g) r d ≡ g r
 getD-tabulate zero r g d l = absurd (omega arith)
@@ -30,7 +28,7 @@ module _ (s : Store) where
   unfolding treeOf
   tree-row r l = getD-tabulate (usedIn s) r (rowAt s) blank l
 
-  tree-key : (r : ℕ) → r < usedIn s → getD (treeOf s) r blank .0 ≡ childAt (s .head) r
+  pub tree-key : (r : ℕ) → r < usedIn s → getD (treeOf s) r blank .0 ≡ childAt (s .head) r
   tree-key r l = ap (λ (x : ℕ × Edge). x .0) (tree-row r l)
 
 -- the store s has n rows in use

@@ -8,14 +8,14 @@ use lib.ListN.{length, getD}
 use lib.Dec.{eqb}
 use borrow.Author.Tests.{eq-eqb, ne-eqb}
 use Rattle.buffer.proofs.Cases.{both}
-use Rattle.registry.specs.Tree.{Edge, Tree, above, ancestors}
-use Rattle.registry.specs.Store.{rowWord, treeOf}
-use Rattle.registry.specs.Sound.{climb}
-use Rattle.registry.specs.Calls.{storeOf}
-use Rattle.registry.specs.Path.{isParent, known}
+use Rattle.tree.specs.Tree.{Edge, Tree, above, ancestors}
+use Rattle.tree.specs.Store.{rowWord, treeOf}
+use Rattle.tree.specs.Sound.{climb}
+use Rattle.tree.specs.Calls.{storeOf}
+use Rattle.tree.specs.Path.{isParent, known}
 use Rattle.registry.specs.Rows.{headOf, UsedRows, RisingRows, IsRow, IsAbsent}
 use Rattle.registry.specs.Walks.{OfTree}
-use Rattle.registry.proofs.StoreBack.{blank}
+use Rattle.tree.proofs.StoreBack.{blank}
 use Rattle.registry.proofs.TreeRows.{length-tree, tree-row, get-found, get-absent}
 use Rattle.registry.proofs.CircleWalk.{above-root, above-up}
 

@@ -1,7 +1,7 @@
 -- The steps of an addition, as the contracts of the private functions cite them. No public contract rests on these.
 use Prim.Native.Nat.{ℕ, _≤_, _<_}
 use mathlib.Core.Path.{_≡_}
-use mathlib.Core.Bool.{Bool, true, _&&_}
+use mathlib.Core.Bool.{true, _&&_}
 use mathlib.Core.Option.{Option}
 use lib.Dec.{eqb, ltb, leb}
 use lib.ListN.{length}
@@ -12,8 +12,8 @@ use Rattle.geometry.specs.Transform.{validate}
 use Rattle.buffer.specs.Map.{all, put, rising}
 use Rattle.buffer.specs.Samples.{insert}
 use Rattle.buffer.specs.Row.{Row}
-use Rattle.registry.specs.Tree.{Edge, Tree, Limits, Addition, isNew, ancestors, member, kindOf, otherParent, thatParent, otherKind}
-use Rattle.registry.specs.Store.{Store, encode, treeOf, limitsOf, rowsIn, placesIn, usedIn, rowWord, rowInstants, rowPoses, rowAt}
+use Rattle.tree.specs.Tree.{Edge, Tree, Limits, Addition, isNew, ancestors, member, kindOf, otherParent, thatParent, otherKind}
+use Rattle.tree.specs.Store.{Store, encode, treeOf, limitsOf, rowsIn, placesIn, usedIn, rowWord, rowInstants, rowPoses, rowAt}
 
 abbrev pub addition : ℕ → ℕ → Stamp → Isometry → Addition
 addition child parent stamp pose = record { child = child; parent = parent; stamp = stamp; pose = pose }

@@ -6,8 +6,8 @@ use lib.ListN.{length}
 use Rattle.buffer.specs.Row.{rowSound}
 use Rattle.registry.specs.declared.check.Checked.{Checked}
 use Rattle.registry.specs.declared.check.Checked.the-variants.{Sizes, UnsoundStore, Sound}
-use Rattle.registry.specs.Store.{Store, placesIn, ageIn, kindOfWord, rowWord, rowInstants, rowPoses, sized}
-use Rattle.registry.specs.Sound.{sound}
+use Rattle.tree.specs.Store.{Store, placesIn, ageIn, kindOfWord, rowWord, rowInstants, rowPoses, sized}
+use Rattle.tree.specs.Sound.{sound}
 
 -- row r lies within the three slices
 pub record RowPart (r : ℕ) (s : Store) : Type 0 where

@@ -13,10 +13,10 @@ use Rattle.buffer.specs.Words.{inserted}
 use Rattle.buffer.specs.Row.{instantWords, poseWords}
 use Rattle.registry.specs.declared.find.Found.{Found}
 use Rattle.registry.specs.declared.find.Found.the-variants.{At, Absent}
-use Rattle.registry.specs.Tree.{Edge}
-use Rattle.registry.specs.Store.{Store, rowWords, rowsIn, placesIn, usedIn, rowWord, treeOf}
-use Rattle.registry.specs.Sound.{framesFit, parentsDiffer, climb, noCircle, namedValues}
-use Rattle.registry.specs.Calls.{storeOf}
+use Rattle.tree.specs.Tree.{Edge}
+use Rattle.tree.specs.Store.{Store, rowWords, rowsIn, placesIn, usedIn, rowWord, treeOf}
+use Rattle.tree.specs.Sound.{framesFit, parentsDiffer, climb, noCircle, namedValues}
+use Rattle.tree.specs.Calls.{storeOf}
 
 -- a store of which only the head is read
 abbrev pub headOf : List ℕ → Store

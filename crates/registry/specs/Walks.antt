@@ -24,13 +24,13 @@ use Rattle.registry.specs.declared.common.Common.{Common}
 use Rattle.registry.specs.declared.common.Common.the-variants as so-far
 use Rattle.registry.specs.declared.common.Narrowed.{Narrowed}
 use Rattle.registry.specs.declared.common.Narrowed.the-variants as narrower
-use Rattle.registry.specs.Tree.{Tree}
-use Rattle.registry.specs.Store.{Store, placesIn, rowWord, rowInstants, rowPoses, treeOf}
-use Rattle.registry.specs.Sound.{noCircle}
-use Rattle.registry.specs.Answers.{Value, static, at, rangeOf}
-use Rattle.registry.specs.Calls.{storeOf}
+use Rattle.tree.specs.Tree.{Tree}
+use Rattle.tree.specs.Store.{Store, placesIn, rowWord, rowInstants, rowPoses, treeOf}
+use Rattle.tree.specs.Sound.{noCircle}
+use Rattle.tree.specs.Answers.{Value, static, at, rangeOf}
+use Rattle.tree.specs.Calls.{storeOf}
 use Rattle.registry.specs.Rows.{childAt, RisingRows}
-use Rattle.registry.specs.Path.{Hop, chain, until, side, connected, hops, ask, Span}
+use Rattle.tree.specs.Path.{Hop, chain, until, side, connected, hops, ask, Span}
 
 -- P of the tree with this head, whatever its instants and poses
 abbrev pub OfTree : List ℕ → (Tree → Type 0) → Type 0

@@ -1,5 +1,4 @@
 // Adding a pose.
-use super::answer::Answer;
 use super::check;
 use super::check::Checked;
 use super::cycle;
@@ -13,6 +12,7 @@ use buffer::kind::Kind;
 use geometry::isometry::Isometry;
 use geometry::transform;
 use time::stamp::Stamp;
+use tree::answer::Answer;
 ghost use mathlib.Core.Path.{_≡_};
 ghost use mathlib.Core.Option.{none, some};
 ghost use mathlib.Core.List.{List};
@@ -21,10 +21,10 @@ ghost use lib.Ieee.{Float};
 ghost use lib.ListN.{length};
 ghost use Rattle.time.specs.declared.stamp.Stamp.{Stamp};
 ghost use Rattle.time.specs.Reply.{answer};
-ghost use Rattle.registry.specs.Tree.{Limits, Tree, sameKind, kindOf, instantOf, add};
-ghost use Rattle.registry.specs.Store.{usedIn, rowWord, rowAt, limitsOf, treeOf};
-ghost use Rattle.registry.specs.Answers.{replyOf, done};
-ghost use Rattle.registry.specs.Calls.{outcome, storeOf, written, addOf};
+ghost use Rattle.tree.specs.Tree.{Limits, Tree, sameKind, kindOf, instantOf, add};
+ghost use Rattle.tree.specs.Store.{usedIn, rowWord, rowAt, limitsOf, treeOf};
+ghost use Rattle.tree.specs.Answers.{replyOf, done};
+ghost use Rattle.tree.specs.Calls.{outcome, storeOf, written, addOf};
 ghost use Rattle.registry.specs.Checks.{RowPart, SoundStore};
 ghost use Rattle.registry.specs.Adding.{addition, posed, admits, HeldRow, putInto};
 ghost use Rattle.registry.specs.Rows.{headOf, RisingRows, IsRow, IsAbsent};

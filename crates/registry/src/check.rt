@@ -5,8 +5,8 @@ use super::sizes;
 use super::unused;
 use buffer::sound;
 ghost use mathlib.Core.Path.{_≡_};
-ghost use Rattle.registry.specs.Sound.{rowsSound};
-ghost use Rattle.registry.specs.Calls.{storeOf};
+ghost use Rattle.tree.specs.Sound.{rowsSound};
+ghost use Rattle.tree.specs.Calls.{storeOf};
 ghost use Rattle.registry.specs.Rows.{UsedParts};
 ghost use Rattle.registry.specs.Checks.{RowPart, rowRules, Checks};
 

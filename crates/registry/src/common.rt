@@ -1,6 +1,4 @@
 // Latest common time, on a store that is sized and sound.
-use super::answer::Answer;
-use super::answer::Covered;
 use super::find;
 use super::find::Found;
 use super::head;
@@ -8,15 +6,17 @@ use super::path;
 use super::path::Endpoints;
 use super::row;
 use buffer::coverage::Coverage;
+use tree::answer::Answer;
+use tree::answer::Covered;
 ghost use mathlib.Core.Path.{_≡_};
 ghost use mathlib.Core.List.{List, _++_};
 ghost use Prim.Native.Nat.{ℕ, min};
 ghost use lib.Ieee.{Float};
 ghost use Rattle.time.specs.Reply.{refusal, nothing, _then_};
-ghost use Rattle.registry.specs.Store.{usedIn, treeOf};
-ghost use Rattle.registry.specs.Answers.{replyOf};
-ghost use Rattle.registry.specs.Calls.{storeOf};
-ghost use Rattle.registry.specs.Path.{spans, meet, commonTime};
+ghost use Rattle.tree.specs.Store.{usedIn, treeOf};
+ghost use Rattle.tree.specs.Answers.{replyOf};
+ghost use Rattle.tree.specs.Calls.{storeOf};
+ghost use Rattle.tree.specs.Path.{spans, meet, commonTime};
 ghost use Rattle.registry.specs.Rows.{headOf};
 ghost use Rattle.registry.specs.Walks.{hopsTo, Walkable, askKnown, commonOf, spanOf, narrowedReply, narrow, narrowBy, narrowed, agreed};
 

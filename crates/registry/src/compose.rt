@@ -1,6 +1,4 @@
 // The poses of a path's two sides, composed while climbing.
-use super::answer::Answer;
-use super::answer::Covered;
 use super::find;
 use super::find::Found;
 use super::head;
@@ -8,13 +6,15 @@ use super::row;
 use buffer::get::Got;
 use geometry::isometry::Isometry;
 use geometry::transform;
+use tree::answer::Answer;
+use tree::answer::Covered;
 ghost use mathlib.Core.Path.{_≡_};
 ghost use mathlib.Core.Option.{none};
 ghost use Rattle.time.specs.Reply.{answer, _then_};
-ghost use Rattle.registry.specs.Store.{treeOf};
-ghost use Rattle.registry.specs.Answers.{pose, replyOf};
-ghost use Rattle.registry.specs.Calls.{storeOf};
-ghost use Rattle.registry.specs.Path.{onto, fold, joined};
+ghost use Rattle.tree.specs.Store.{treeOf};
+ghost use Rattle.tree.specs.Answers.{pose, replyOf};
+ghost use Rattle.tree.specs.Calls.{storeOf};
+ghost use Rattle.tree.specs.Path.{onto, fold, joined};
 ghost use Rattle.registry.specs.Walks.{sideOf, composedReply, hopsTo, Posed};
 
 // The product of a side's poses, if it has a hop.

@@ -6,9 +6,9 @@ ghost use mathlib.Core.Path.{_≡_};
 ghost use mathlib.Core.List.{List};
 ghost use Prim.Native.Nat.{ℕ};
 ghost use lib.Ieee.{Float};
-ghost use Rattle.registry.specs.Tree.{ancestors, member};
-ghost use Rattle.registry.specs.Store.{treeOf};
-ghost use Rattle.registry.specs.Calls.{storeOf};
+ghost use Rattle.tree.specs.Tree.{ancestors, member};
+ghost use Rattle.tree.specs.Store.{treeOf};
+ghost use Rattle.tree.specs.Calls.{storeOf};
 ghost use Rattle.registry.specs.Rows.{RisingRows};
 
 // Whether the child is above the parent, by a walk of at most as many steps as there are rows.
@@ -19,8 +19,7 @@ pub(crate) fn creates_cycle(head: &[u64], used: usize, child: u64, parent: u64) 
     let mut at = parent;
     let mut left = used;
     while 0 < left {
-        let found = find::find_row(head, used, at);
-        let Found::At(row) = found else {
+        let Found::At(row) = find::find_row(head, used, at) else {
             return false;
         };
         at = head::parent_at(head, row);

@@ -1,11 +1,11 @@
 // Lookup.
-use super::answer::Answer;
 use super::check;
 use super::check::Checked;
 use super::resolve;
+use tree::answer::Answer;
 ghost use mathlib.Core.Path.{_≡_};
-ghost use Rattle.registry.specs.Answers.{replyOf};
-ghost use Rattle.registry.specs.Calls.{storeOf, lookupOf};
+ghost use Rattle.tree.specs.Answers.{replyOf};
+ghost use Rattle.tree.specs.Calls.{storeOf, lookupOf};
 
 // The source's pose seen from the target, at an instant.
 pub fn get_transform(

@@ -7,7 +7,7 @@ ghost use mathlib.Core.Path.{_≡_};
 ghost use Prim.Native.Nat.{_+_, _*_, _^_, _≤_, _<_};
 ghost use lib.ListN.{length};
 ghost use Rattle.buffer.specs.Answers.{ageOf};
-ghost use Rattle.registry.specs.Store.{ageIn, kindOfWord, kindWord, rowWord};
+ghost use Rattle.tree.specs.Store.{ageIn, kindOfWord, kindWord, rowWord};
 ghost use Rattle.registry.specs.Rows.{emptyRow, headOf, rowInserted};
 
 pub(crate) const ROWS: usize = 0;
@@ -20,6 +20,9 @@ pub(crate) const AGE_FLAG: usize = 3;
 
 pub(crate) const AGE: usize = 4;
 
+// The words before the rows, and those of a row.
+pub(crate) const OWN: usize = 5;
+
 const ROW: usize = 4;
 
 // The place of word j of row r.
@@ -27,7 +30,7 @@ pub(crate) fn word_place(r: usize, j: usize) -> usize
     requires { ⌜ (r < 2 ^ 60) × (j < 4) ⌝ }
     ensures { λ k. ⌜ k ≡ 5 + 4 * r + j ⌝ }
 {
-    5 + 4 * r + j
+    OWN + ROW * r + j
 }
 
 fn row_word(head: &[u64], r: usize, j: usize) -> u64

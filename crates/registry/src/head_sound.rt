@@ -2,16 +2,14 @@
 use super::head;
 use super::no_circle;
 ghost use mathlib.Core.Path.{_≡_};
-ghost use mathlib.Core.Bool.{_&&_, _||_};
 ghost use mathlib.Core.List.{List};
 ghost use Prim.Native.Nat.{ℕ, _+_, _*_, _≤_, _<_};
-ghost use lib.Dec.{eqb, leb};
 ghost use lib.Ieee.{Float};
-ghost use lib.ListN.{length, getD};
+ghost use lib.ListN.{length};
 ghost use Rattle.buffer.specs.Map.{rising};
-ghost use Rattle.registry.specs.Store.{rowsIn, treeOf};
-ghost use Rattle.registry.specs.Sound.{every};
-ghost use Rattle.registry.specs.Calls.{storeOf};
+ghost use Rattle.tree.specs.Store.{rowsIn, treeOf};
+ghost use Rattle.tree.specs.Sound.{every};
+ghost use Rattle.tree.specs.Calls.{storeOf};
 ghost use Rattle.registry.specs.Rows.{headOf, UsedRows, rowFits, ageNamed, headSound};
 
 fn children_rise(head: &[u64], used: usize) -> bool
@@ -56,8 +54,7 @@ fn rows_fit(head: &[u64], used: usize) -> bool
 {
     let mut r = 0;
     while r < used {
-        let fits = row_fits(head, r);
-        if !fits {
+        if !row_fits(head, r) {
             return false;
         }
         r += 1;
@@ -85,22 +82,19 @@ pub(crate) fn head_sound(head: &[u64]) -> bool
     requires { ⌜ (rowsIn (headOf (now head)) ≤ 256) × (5 + 4 * rowsIn (headOf (now head)) ≤ length (now head)) ⌝ }
     ensures { λ r. ⌜ ((instants : List ℕ) (poses : List Float) → r ≡ headSound (storeOf (now (head .entry)) instants poses)) ⌝ }
 {
-    let rows = head[head::ROWS];
-    let used = head[head::USED];
+    let rows = head[head::ROWS] as usize;
+    let used = head[head::USED] as usize;
     if rows < used {
         return false;
     }
-    let rise = children_rise(head, used as usize);
-    if !rise {
+    if !children_rise(head, used) {
         return false;
     }
-    let fit = rows_fit(head, used as usize);
-    if !fit {
+    if !rows_fit(head, used) {
         return false;
     }
-    let named = age_named(head);
-    if !named {
+    if !age_named(head) {
         return false;
     }
-    no_circle::no_circle(head, used as usize)
+    no_circle::no_circle(head, used)
 }

@@ -1,11 +1,11 @@
 // Latest common time.
-use super::answer::Answer;
 use super::check;
 use super::check::Checked;
 use super::common;
+use tree::answer::Answer;
 ghost use mathlib.Core.Path.{_≡_};
-ghost use Rattle.registry.specs.Answers.{replyOf};
-ghost use Rattle.registry.specs.Calls.{storeOf, commonTimeOf};
+ghost use Rattle.tree.specs.Answers.{replyOf};
+ghost use Rattle.tree.specs.Calls.{storeOf, commonTimeOf};
 
 // The latest instant that every hop between the frames serves.
 pub fn latest_common_time(

@@ -1,6 +1,5 @@
 // The frame tree over three lent slices, from src/core/registry of the Rust.
 pub mod add;
-pub mod answer;
 mod check;
 mod common;
 mod compose;

@@ -7,7 +7,7 @@ ghost use Prim.Native.Nat.{_+_, _≤_};
 ghost use lib.ListN.{length, replicate};
 ghost use Rattle.time.specs.Float.{zero64};
 ghost use Rattle.buffer.specs.Words.{inserted};
-ghost use Rattle.registry.specs.Calls.{storeOf};
+ghost use Rattle.tree.specs.Calls.{storeOf};
 ghost use Rattle.registry.specs.Rows.{RowRoom, emptyRow, withRow};
 
 // Puts `gap` zeros in at `at`, before the words up to `end`.

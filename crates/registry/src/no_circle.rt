@@ -10,9 +10,9 @@ ghost use lib.Ieee.{Float};
 ghost use lib.Dec.{leb};
 ghost use lib.ListN.{length};
 ghost use Rattle.buffer.specs.Map.{all};
-ghost use Rattle.registry.specs.Store.{treeOf};
-ghost use Rattle.registry.specs.Sound.{noCircle};
-ghost use Rattle.registry.specs.Calls.{storeOf};
+ghost use Rattle.tree.specs.Store.{treeOf};
+ghost use Rattle.tree.specs.Sound.{noCircle};
+ghost use Rattle.tree.specs.Calls.{storeOf};
 ghost use Rattle.registry.specs.Rows.{RisingRows, IsUp, Climbed, onward, movedOn};
 
 // The row of the parent of row r, or `used` where the parent is no child.
@@ -21,8 +21,7 @@ fn parent_row(head: &[u64], used: usize, r: usize) -> usize
     ensures { λ x. ⌜ IsUp used (now (head .entry)) 1 r x ⌝ }
 {
     let parent = head::parent_at(head, r);
-    let found = find::find_row(head, used, parent);
-    let Found::At(row) = found else {
+    let Found::At(row) = find::find_row(head, used, parent) else {
         return used;
     };
     row

@@ -1,13 +1,13 @@
 // Opening a store.
-use super::answer::Answer;
 use super::head;
 use super::sizes;
 use buffer::max_age::MaxAge;
 use buffer::words;
+use tree::answer::Answer;
 ghost use mathlib.Core.Path.{_≡_};
 ghost use Rattle.buffer.specs.Answers.{ageOf};
-ghost use Rattle.registry.specs.Answers.{replyOf};
-ghost use Rattle.registry.specs.Calls.{outcome, storeOf, openOf};
+ghost use Rattle.tree.specs.Answers.{replyOf};
+ghost use Rattle.tree.specs.Calls.{outcome, storeOf, openOf};
 
 // Overwrites everything with a store of these sizes and this age, with no row used.
 pub fn open(
@@ -21,8 +21,7 @@ pub fn open(
     ensures { λ r. ⌜ outcome (replyOf r) (now (head .exit)) (now (instants .exit)) (now (poses .exit))
         ≡ openOf (storeOf (now (head .entry)) (now (instants .entry)) (now (poses .entry))) (record { rows = rows; places = samples; age = ageOf «max_age» }) ⌝ }
 {
-    let fit = sizes::sizes_fit(head, instants, poses, rows, samples);
-    if !fit {
+    if !sizes::sizes_fit(head, instants, poses, rows, samples) {
         return Answer::Sizes;
     }
     words::clear_words(head);

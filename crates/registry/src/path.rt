@@ -6,9 +6,9 @@ use super::head;
 ghost use mathlib.Core.Path.{_≡_};
 ghost use mathlib.Core.Bool.{true};
 ghost use lib.ListN.{length};
-ghost use Rattle.registry.specs.Tree.{ancestors};
-ghost use Rattle.registry.specs.Sound.{climb, noCircle};
-ghost use Rattle.registry.specs.Path.{isParent, known};
+ghost use Rattle.tree.specs.Tree.{ancestors};
+ghost use Rattle.tree.specs.Sound.{climb, noCircle};
+ghost use Rattle.tree.specs.Path.{isParent, known};
 ghost use Rattle.registry.specs.Rows.{UsedRows, RisingRows};
 ghost use Rattle.registry.specs.Walks.{OfTree, AskedBy, AreTops};
 

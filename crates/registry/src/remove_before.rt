@@ -1,17 +1,17 @@
 // Wiping.
-use super::answer::Answer;
 use super::check;
 use super::check::Checked;
 use super::find;
 use super::find::Found;
 use super::head;
 use buffer::remove_before;
+use tree::answer::Answer;
 ghost use mathlib.Core.Path.{_≡_};
 ghost use Prim.Native.Nat.{_<_};
 ghost use Rattle.time.specs.Reply.{answer};
-ghost use Rattle.registry.specs.Store.{usedIn, rowWord};
-ghost use Rattle.registry.specs.Answers.{replyOf, done};
-ghost use Rattle.registry.specs.Calls.{outcome, storeOf, wipeOf};
+ghost use Rattle.tree.specs.Store.{usedIn, rowWord};
+ghost use Rattle.tree.specs.Answers.{replyOf, done};
+ghost use Rattle.tree.specs.Calls.{outcome, storeOf, wipeOf};
 ghost use Rattle.registry.specs.Checks.{RowPart, SoundStore};
 
 // Drops row r's samples before t, where it is a moving row.

@@ -1,16 +1,16 @@
 // Lookup, on a store that is sized and sound.
-use super::answer::Answer;
 use super::compose;
 use super::compose::Composed;
 use super::head;
 use super::path;
 use super::path::Endpoints;
 use geometry::isometry::Isometry;
+use tree::answer::Answer;
 ghost use mathlib.Core.Path.{_≡_};
-ghost use Rattle.registry.specs.Store.{treeOf};
-ghost use Rattle.registry.specs.Answers.{replyOf};
-ghost use Rattle.registry.specs.Calls.{storeOf};
-ghost use Rattle.registry.specs.Path.{lookupAlong, lookupApart, lookup};
+ghost use Rattle.tree.specs.Store.{treeOf};
+ghost use Rattle.tree.specs.Answers.{replyOf};
+ghost use Rattle.tree.specs.Calls.{storeOf};
+ghost use Rattle.tree.specs.Path.{lookupAlong, lookupApart, lookup};
 ghost use Rattle.registry.specs.Checks.{SoundStore};
 ghost use Rattle.registry.specs.Walks.{Posed, askKnown};
 

@@ -9,8 +9,8 @@ ghost use Prim.Native.Nat.{ℕ};
 ghost use lib.Ieee.{Float};
 ghost use Rattle.buffer.specs.Answers.{gotReply};
 ghost use Rattle.buffer.specs.Samples.{served, coverage};
-ghost use Rattle.registry.specs.Store.{rowAt};
-ghost use Rattle.registry.specs.Calls.{storeOf};
+ghost use Rattle.tree.specs.Store.{rowAt};
+ghost use Rattle.tree.specs.Calls.{storeOf};
 ghost use Rattle.registry.specs.Walks.{HeldInstants, HeldRow};
 
 pub(crate) fn sample(head: &[u64], instants: &[u64], poses: &[f64], row: usize, t: u64) -> Got

@@ -1,7 +1,8 @@
 // Refusal 1: E, S and the lengths of the three slices.
+use super::head;
 ghost use mathlib.Core.Path.{_≡_};
-ghost use Rattle.registry.specs.Store.{sizesFit, sized};
-ghost use Rattle.registry.specs.Calls.{storeOf};
+ghost use Rattle.tree.specs.Store.{sizesFit, sized};
+ghost use Rattle.tree.specs.Calls.{storeOf};
 
 // Whether the sizes are within their limits and the slices have the lengths that they ask for.
 pub(crate) fn sizes_fit(
@@ -26,7 +27,7 @@ pub(crate) fn sizes_fit(
         return false;
     }
     let words = rows * places;
-    if head.len() as u64 != 5 + 4 * rows {
+    if head.len() != head::word_place(rows as usize, 0) {
         return false;
     }
     if instants.len() as u64 != words {
@@ -39,8 +40,10 @@ pub(crate) fn sizes_fit(
 pub(crate) fn sized(head: &[u64], instants: &[u64], poses: &[f64]) -> bool
     ensures { λ r. ⌜ r ≡ sized (storeOf (now (head .entry)) (now (instants .entry)) (now (poses .entry))) ⌝ }
 {
-    if head.len() < 5 {
+    if head.len() < head::OWN {
         return false;
     }
-    sizes_fit(head, instants, poses, head[0], head[1])
+    let rows = head[head::ROWS];
+    let places = head[head::PLACES];
+    sizes_fit(head, instants, poses, rows, places)
 }

@@ -2,8 +2,8 @@
 use super::head;
 use buffer::sound;
 ghost use mathlib.Core.Path.{_≡_};
-ghost use Rattle.registry.specs.Sound.{unusedRowsZero};
-ghost use Rattle.registry.specs.Calls.{storeOf};
+ghost use Rattle.tree.specs.Sound.{unusedRowsZero};
+ghost use Rattle.tree.specs.Calls.{storeOf};
 ghost use Rattle.registry.specs.Rows.{UsedParts};
 
 pub(crate) fn unused_rows_zero(head: &[u64], instants: &[u64], poses: &[f64]) -> bool

@@ -1,12 +1,11 @@
 -- `registry::add::add_held` meets its contract: a test refuses, or the row is grown.
-use mathlib.Core.Path.{_≡_, sym, ap, _∙_}
+use mathlib.Core.Path.{sym, ap, _∙_}
 use mathlib.Core.Option.{some}
 use borrow.Author.Needs.{needs}
-use Rattle.time.specs.Reply.{answer}
-use Rattle.registry.specs.Store.{Store, rowAt, treeOf, limitsOf}
-use Rattle.registry.specs.Answers.{done, replyOf}
-use Rattle.registry.specs.Calls.{storeOf}
-use Rattle.registry.specs.Adding.{addition, admits}
+use Rattle.tree.specs.Store.{Store, rowAt, treeOf, limitsOf}
+use Rattle.tree.specs.Answers.{replyOf}
+use Rattle.tree.specs.Calls.{storeOf}
+use Rattle.registry.specs.Adding.{addition}
 use Rattle.registry.proofs.SoundStore.{sound-part, sound-held, sound-parent}
 use Rattle.registry.proofs.AddWritten.{refused-written, held-get, held-written}
 use Rattle.registry.proofs.add.add_held.Statement.{statement}

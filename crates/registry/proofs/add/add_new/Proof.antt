@@ -4,10 +4,10 @@ use mathlib.Core.Path.{_≡_, sym, ap, subst, _∙_}
 use mathlib.Core.Option.{none}
 use borrow.Author.Needs.{needs}
 use Rattle.time.specs.Reply.{answer}
-use Rattle.registry.specs.Tree.{Addition}
-use Rattle.registry.specs.Store.{Store, rowsIn, usedIn, treeOf, limitsOf}
-use Rattle.registry.specs.Answers.{done, replyOf}
-use Rattle.registry.specs.Calls.{storeOf, written}
+use Rattle.tree.specs.Tree.{Addition}
+use Rattle.tree.specs.Store.{Store, rowsIn, usedIn, treeOf, limitsOf}
+use Rattle.tree.specs.Answers.{done, replyOf}
+use Rattle.tree.specs.Calls.{storeOf, written}
 use Rattle.registry.specs.Checks.{RowPart}
 use Rattle.registry.specs.Adding.{addition, admits, HeldRow, putInto}
 use Rattle.registry.proofs.SoundStore.{sound-rows}

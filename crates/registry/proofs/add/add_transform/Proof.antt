@@ -1,13 +1,11 @@
 -- `registry::add::add_transform` meets its contract: 1, 2, and then the addition to a held or to a new child.
-use Prim.Native.Nat.{ℕ, _+_, _*_, _≤_, _<_}
-use mathlib.Core.Path.{_≡_, sym, ap, subst, _∙_}
-use mathlib.Core.List.{[], _∷_}
+use mathlib.Core.Path.{subst, _∙_}
 use native.Mathlib.Omega.{arith}
 use lib.ListN.{getD}
 use borrow.Author.Needs.{needs}
-use Rattle.registry.specs.Store.{Store}
-use Rattle.registry.specs.Tree.{Addition}
-use Rattle.registry.specs.Calls.{storeOf}
+use Rattle.tree.specs.Store.{Store}
+use Rattle.tree.specs.Tree.{Addition}
+use Rattle.tree.specs.Calls.{storeOf}
 use Rattle.registry.specs.Rows.{Finds}
 use Rattle.registry.specs.Checks.{SoundStore, Checks}
 use Rattle.registry.specs.Adding.{addition}

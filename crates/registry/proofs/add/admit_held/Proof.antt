@@ -8,10 +8,10 @@ use lib.Ieee.{Float}
 use borrow.Author.Needs.{needs}
 use borrow.Author.Tests.{eq-eqb, ne-eqb, not-true, not-false}
 use Rattle.time.specs.Reply.{Reply, answer, nothing, frame, refuse, refusal}
-use Rattle.registry.specs.Tree.{Limits, Tree, Edge, sameKind}
-use Rattle.registry.specs.Store.{rowAt}
-use Rattle.registry.specs.Answers.{Value, done, replyOf}
-use Rattle.registry.specs.Calls.{storeOf}
+use Rattle.tree.specs.Tree.{Edge, sameKind}
+use Rattle.tree.specs.Store.{rowAt}
+use Rattle.tree.specs.Answers.{Value, done, replyOf}
+use Rattle.tree.specs.Calls.{storeOf}
 use Rattle.registry.specs.Adding.{posed}
 use Rattle.registry.proofs.Admitting.{held-tested, held-other, held-kind}
 use Rattle.registry.proofs.add.admit_held.Statement.{statement}

@@ -1,20 +1,18 @@
 -- `registry::add::admit_new` meets its contract: the first test that is due decides.
 use Prim.Native.Nat.{ℕ}
 use mathlib.Core.Path.{_≡_, sym, ap, _∙_}
-use mathlib.Core.Bool.{Bool, true, false}
+use mathlib.Core.Bool.{false}
 use mathlib.Core.List.{List}
 use lib.Dec.{leb}
 use lib.Ieee.{Float}
-use lib.ListN.{length}
 use borrow.Author.Needs.{needs}
 use borrow.Author.Tests.{le-leb, lt-leb}
-use Rattle.time.specs.Reply.{Reply, answer, nothing, refuse}
-use Rattle.registry.specs.Tree.{ancestors, member}
-use Rattle.registry.specs.Store.{Store, rowsIn, treeOf, limitsOf}
-use Rattle.registry.specs.Answers.{Value, done, replyOf}
-use Rattle.registry.specs.Calls.{storeOf}
+use Rattle.time.specs.Reply.{answer}
+use Rattle.tree.specs.Tree.{ancestors, member}
+use Rattle.tree.specs.Store.{Store, treeOf, limitsOf}
+use Rattle.tree.specs.Answers.{done, replyOf}
+use Rattle.tree.specs.Calls.{storeOf}
 use Rattle.registry.specs.Adding.{posed}
-use Rattle.registry.proofs.TreeRows.{length-tree}
 use Rattle.registry.proofs.Admitting.{new-circle, new-tested, new-room, room-is}
 use Rattle.registry.proofs.add.admit_new.Statement.{statement}
 use Rattle.registry.proofs.add.admit_new.Tie as tie

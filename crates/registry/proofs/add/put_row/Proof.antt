@@ -1,12 +1,12 @@
 -- `registry::add::put_row` meets its contract: the row's parts with the sample put in, then its count; or every word as it was.
-use mathlib.Core.Path.{_≡_, sym, ap, _∙_}
-use native.Mathlib.Omega.{arith}
+use mathlib.Core.Path.{ap}
 use lib.ListN.{length}
 use borrow.Author.Needs.{needs}
 use Rattle.buffer.specs.Answers.{ageOf, insertedReply}
-use Rattle.registry.specs.Store.{Store}
-use Rattle.registry.specs.Calls.{storeOf}
-use Rattle.registry.proofs.RowPutting.{asked-row, row-full, row-held}
+use Rattle.tree.specs.Store.{Store}
+use Rattle.tree.specs.Calls.{storeOf}
+use Rattle.registry.proofs.RowHolding.{row-lent}
+use Rattle.registry.proofs.RowPutting.{row-full, row-held}
 use Rattle.registry.proofs.add.put_row.Statement.{statement}
 use Rattle.registry.proofs.add.put_row.Tie as tie
 
@@ -66,7 +66,7 @@ insert-requires c κs =
     let m = c .before .before in
     let n = m .before .before in
     let s = n .before .before .before .before .before .before in
-    asked-row (store s) (s .args .r) (s .pre .0) (s .pre .1) (n .count-at .result) (n .count-at .ensures)
+    row-lent (store s) (s .args .r) (n .count-at .result) (n .count-at .ensures) (s .pre .1 .row)
 
 enum-known-inserted : tie.Need-enum-known-inserted
 enum-known-inserted c = search needs

@@ -1,13 +1,12 @@
 -- `registry::add::test_pose` meets its contract: what `validate` gives, then 5.
-use Prim.Native.Nat.{ℕ}
-use mathlib.Core.Path.{_≡_, sym, ap, _∙_}
+use mathlib.Core.Path.{sym, ap, _∙_}
 use mathlib.Core.Bool.{Bool}
 use lib.Dec.{eqb}
 use borrow.Author.Needs.{needs}
 use borrow.Author.Tests.{eq-eqb, ne-eqb}
-use Rattle.time.specs.Reply.{Reply, answer, nothing, norm, refuse}
+use Rattle.time.specs.Reply.{answer, nothing, norm, refuse}
 use Rattle.geometry.specs.Answers as geometry
-use Rattle.registry.specs.Answers.{Value, done}
+use Rattle.tree.specs.Answers.{Value, done}
 use Rattle.registry.proofs.Admitting.{validate-left, posed-refused, posed-passed}
 use Rattle.registry.proofs.add.test_pose.Statement.{statement}
 use Rattle.registry.proofs.add.test_pose.Tie as tie

@@ -3,9 +3,9 @@ use mathlib.Core.Path.{_≡_, sym, _∙_}
 use mathlib.Core.Bool.{true, false}
 use borrow.Author.Needs.{needs}
 use borrow.Author.Tests.{not-true, not-false}
-use Rattle.registry.specs.Store.{Store, sized}
-use Rattle.registry.specs.Sound.{rowsSound}
-use Rattle.registry.specs.Calls.{storeOf}
+use Rattle.tree.specs.Store.{Store, sized}
+use Rattle.tree.specs.Sound.{rowsSound}
+use Rattle.tree.specs.Calls.{storeOf}
 use Rattle.registry.specs.Rows.{headSound}
 use Rattle.registry.proofs.Checking.{head-asked, parts-used, head-unsound, rows-unsound, all-rules}
 use Rattle.registry.proofs.check.check.Statement.{statement}

@@ -1,6 +1,6 @@
 -- `registry::check::row_sound` meets its contract: the parts that it lends are the row's.
 use borrow.Author.Needs.{needs}
-use Rattle.registry.specs.Calls.{storeOf}
+use Rattle.tree.specs.Calls.{storeOf}
 use Rattle.registry.proofs.Checking.{row-rules-are}
 use Rattle.registry.proofs.check.row_sound.Statement.{statement}
 use Rattle.registry.proofs.check.row_sound.Tie as tie

@@ -6,11 +6,11 @@ use native.Mathlib.Omega.{arith}
 use borrow.Author.Needs.{needs}
 use borrow.Author.Count.{below-none, below-more}
 use borrow.Author.Tests.{not-true, not-false}
-use Rattle.registry.specs.Store.{Store, usedIn}
-use Rattle.registry.specs.Calls.{storeOf}
+use Rattle.tree.specs.Store.{Store, usedIn}
+use Rattle.tree.specs.Calls.{storeOf}
 use Rattle.registry.specs.Checks.{rowRules}
-use Rattle.registry.proofs.Everys.{every-is}
-use Rattle.registry.proofs.AllTests.{every-fails}
+use Rattle.tree.proofs.Everys.{every-is}
+use Rattle.tree.proofs.AllTests.{every-fails}
 use Rattle.registry.proofs.Checking.{used-part}
 use Rattle.registry.proofs.check.rows_sound.Statement.{statement}
 use Rattle.registry.proofs.check.rows_sound.Tie as tie

@@ -4,11 +4,11 @@ use mathlib.Core.List.{List, _++_}
 use borrow.Author.Needs.{needs}
 use lib.Ieee.{Float}
 use Rattle.time.specs.Reply.{refusal, nothing, _then_}
-use Rattle.registry.specs.Tree.{Tree}
-use Rattle.registry.specs.Store.{treeOf}
-use Rattle.registry.specs.Answers.{static}
-use Rattle.registry.specs.Calls.{storeOf}
-use Rattle.registry.specs.Path.{spans, meet, commonTime}
+use Rattle.tree.specs.Tree.{Tree}
+use Rattle.tree.specs.Store.{treeOf}
+use Rattle.tree.specs.Answers.{static}
+use Rattle.tree.specs.Calls.{storeOf}
+use Rattle.tree.specs.Path.{spans, meet, commonTime}
 use Rattle.registry.proofs.AskTops.{asked-is}
 use Rattle.registry.proofs.common.common_time.Statement.{statement}
 use Rattle.registry.proofs.common.common_time.Tie as tie

@@ -3,9 +3,9 @@ use mathlib.Core.Path.{_∙_}
 use mathlib.Core.List.{List}
 use borrow.Author.Needs.{needs}
 use lib.Ieee.{Float}
-use Rattle.registry.specs.Tree.{Tree}
-use Rattle.registry.specs.Store.{treeOf}
-use Rattle.registry.specs.Calls.{storeOf}
+use Rattle.tree.specs.Tree.{Tree}
+use Rattle.tree.specs.Store.{treeOf}
+use Rattle.tree.specs.Calls.{storeOf}
 use Rattle.registry.specs.Walks.{AreTops}
 use Rattle.registry.proofs.CommonHops.{common-apart, common-meets, narrowed-is, agreed-is}
 use Rattle.registry.proofs.common.common_time_known.Statement.{statement}

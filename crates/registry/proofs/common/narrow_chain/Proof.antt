@@ -4,9 +4,8 @@ use mathlib.Core.List.{[]}
 use native.Mathlib.Omega.{arith}
 use borrow.Author.Needs.{needs}
 use lib.ListN.{length}
-use Rattle.registry.specs.Tree.{ancestors}
-use Rattle.registry.specs.Store.{treeOf}
-use Rattle.registry.specs.Calls.{storeOf}
+use Rattle.tree.specs.Tree.{ancestors}
+use Rattle.tree.specs.Store.{treeOf}
 use Rattle.registry.specs.Rows.{headOf, Finds, IsRow}
 use Rattle.registry.specs.Walks.{commonOf}
 use Rattle.registry.proofs.SideHops.{less-above}

@@ -3,10 +3,10 @@ use mathlib.Core.Path.{sym, ap, _∙_}
 use Rattle.time.specs.Reply.{Reply, answer, _then_}
 use Rattle.geometry.specs.declared.isometry.Isometry.{Isometry}
 use Rattle.geometry.specs.Answers as geometry
-use Rattle.registry.specs.Answers.{pose}
-use Rattle.registry.specs.Path.{onto, joined}
+use Rattle.tree.specs.Answers.{pose}
+use Rattle.tree.specs.Path.{onto, joined}
 use Rattle.registry.specs.Walks.{sideOf}
-use Rattle.registry.proofs.Joining.{inverse-onto, inverse-left}
+use Rattle.tree.proofs.Joining.{inverse-onto, inverse-left}
 use borrow.Author.Needs.{needs}
 use Rattle.registry.proofs.compose.combine_transforms.Statement.{statement}
 use Rattle.registry.proofs.compose.combine_transforms.Tie as tie

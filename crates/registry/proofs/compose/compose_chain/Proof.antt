@@ -3,9 +3,9 @@ use mathlib.Core.Path.{refl, sym, subst}
 use native.Mathlib.Omega.{arith}
 use borrow.Author.Needs.{needs}
 use lib.ListN.{length}
-use Rattle.registry.specs.Tree.{ancestors}
-use Rattle.registry.specs.Store.{Store, treeOf}
-use Rattle.registry.specs.Calls.{storeOf}
+use Rattle.tree.specs.Tree.{ancestors}
+use Rattle.tree.specs.Store.{Store, treeOf}
+use Rattle.tree.specs.Calls.{storeOf}
 use Rattle.registry.specs.Rows.{Finds, IsRow}
 use Rattle.registry.specs.Walks.{sideOf}
 use Rattle.registry.proofs.SideHops.{less-above}

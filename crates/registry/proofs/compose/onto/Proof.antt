@@ -1,7 +1,7 @@
 -- `registry::compose::onto` meets its contract.
 use mathlib.Core.Path.{_∙_, ap, sym}
 use borrow.Author.Needs.{needs}
-use Rattle.registry.specs.Path.{onto}
+use Rattle.tree.specs.Path.{onto}
 use Rattle.registry.specs.Walks.{sideOf}
 use Rattle.registry.proofs.compose.onto.Statement.{statement}
 use Rattle.registry.proofs.compose.onto.Tie as tie

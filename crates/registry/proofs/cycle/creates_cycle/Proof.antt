@@ -15,14 +15,14 @@ abbrev μ-loop : tie.MeasureT-loop
 μ-loop head used child parent at₀ left₀ at left = left
 
 -- a turn that goes on
-abbrev start : tie.After-found Inv-loop μ-loop → tie.Start Inv-loop μ-loop
+abbrev start : tie.After-row Inv-loop μ-loop → tie.Start Inv-loop μ-loop
 start c = c .before .before .before .before .before .before
 
-abbrev loop : tie.After-found Inv-loop μ-loop → tie.At-loop Inv-loop μ-loop
+abbrev loop : tie.After-row Inv-loop μ-loop → tie.At-loop Inv-loop μ-loop
 loop c = c .before .before .before .before
 
-row : (c : tie.After-found Inv-loop μ-loop) → (let a = start c .args in IsRow (a .used) (a .head .now) (loop c .loop .at) (c .found .given .0 .0))
-row c = let a = start c .args in subst (Finds (a .used) (a .head .now) (loop c .loop .at)) (c .found .given .1) (c .before .before .find-row .ensures)
+held : (c : tie.After-row Inv-loop μ-loop) → (let a = start c .args in IsRow (a .used) (a .head .now) (loop c .loop .at) (c .row .given .0 .0))
+held c = let a = start c .args in subst (Finds (a .used) (a .head .now) (loop c .loop .at)) (c .row .given .1) (c .before .before .find-row .ensures)
 
 loop-holds : tie.Need-loop-holds Inv-loop μ-loop
 loop-holds c = let a = c .before .args in (omega arith, walk-start (a .head .now) (a .used) (a .child) (a .parent) (c .before .pre))
@@ -30,8 +30,8 @@ loop-holds c = let a = c .before .args in (omega arith, walk-start (a .head .now
 find-row-requires : tie.Need-find-row-requires Inv-loop μ-loop
 find-row-requires c κs = c .before .before .before .pre
 
-enum-known-found : tie.Need-enum-known-found Inv-loop μ-loop
-enum-known-found c = search needs
+enum-known-row : tie.Need-enum-known-row Inv-loop μ-loop
+enum-known-row c = search needs
 
 enum-told : tie.Need-enum-told Inv-loop μ-loop
 enum-told c = search needs
@@ -45,7 +45,7 @@ returns c =
     (subst (Finds (a .used) (a .head .now) (l .loop .at)) (c .enum-told .given .1) (c .before .before .find-row .ensures))
 
 parent-at-requires : tie.Need-parent-at-requires Inv-loop μ-loop
-parent-at-requires c κs = omega (arith, row (c .before) .used, start (c .before) .pre .rows .within)
+parent-at-requires c κs = omega (arith, held (c .before) .used, start (c .before) .pre .rows .within)
 
 returns-2 : tie.Need-returns-2 Inv-loop μ-loop
 returns-2 c =
@@ -53,7 +53,7 @@ returns-2 c =
     let s = start f in
     let a = s .args in
     let l = loop f .loop in
-    walk-here (a .head .now) (a .used) (a .child) (a .parent) (s .pre) (l .at) (l .left) _ (l .inv .1) (omega arith) (row f)
+    walk-here (a .head .now) (a .used) (a .child) (a .parent) (s .pre) (l .at) (l .left) _ (l .inv .1) (omega arith) (held f)
     (sym (c .before .parent-at .ensures) ∙ c .if1 .taken)
 
 sub-left : tie.Need-sub-left Inv-loop μ-loop
@@ -71,7 +71,7 @@ loop-again c =
     let e = c .before .parent-at .ensures in (
       omega arith,
       subst (λ (at : ℕ). Walked (a .head .now) (a .child) (a .parent) at (l .left - 1)) (sym e)
-          (walk-on (a .head .now) (a .used) (a .child) (a .parent) (s .pre) (l .at) (l .left) _ (l .inv .1) (omega arith) (row f) (λ q. c .if1 .left (e ∙ q))),
+          (walk-on (a .head .now) (a .used) (a .child) (a .parent) (s .pre) (l .at) (l .left) _ (l .inv .1) (omega arith) (held f) (λ q. c .if1 .left (e ∙ q))),
     )
 
 returns-3 : tie.Need-returns-3 Inv-loop μ-loop
@@ -89,7 +89,7 @@ creates-cycle-spec =
     μ-loop
     loop-holds
     find-row-requires
-    enum-known-found
+    enum-known-row
     enum-told
     returns
     parent-at-requires

@@ -1,8 +1,7 @@
 -- `registry::find::find_row` meets its contract. The invariant of its loop: the frame's row, if there is one, is from `low` up to `high`.
-use Prim.Native.Nat.{ℕ, _+_, _-_, _/_, _≤_, _<_}
-use mathlib.Core.Path.{_≡_, sym, _∙_}
+use Prim.Native.Nat.{_-_}
+use mathlib.Core.Path.{sym, _∙_}
 use native.Mathlib.Omega.{arith}
-use Rattle.registry.specs.Rows.{childAt, RisingRows, IsRow}
 use Rattle.registry.proofs.RowSearch.{Between, between-all, between-up, between-down, between-none}
 use Rattle.registry.proofs.find.find_row.Statement.{statement}
 use Rattle.registry.proofs.find.find_row.Tie as tie

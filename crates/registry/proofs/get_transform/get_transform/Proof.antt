@@ -3,12 +3,12 @@ use mathlib.Core.Path.{_≡_, sym, subst, _∙_}
 use borrow.Author.Needs.{needs}
 use Rattle.time.specs.Reply.{Reply}
 use Rattle.registry.specs.declared.check.Checked.{Checked}
-use Rattle.registry.specs.Tree.{Tree, Limits}
-use Rattle.registry.specs.Store.{Store}
-use Rattle.registry.specs.Answers.{Value}
-use Rattle.registry.specs.Calls.{storeOf, lookupOf}
+use Rattle.tree.specs.Tree.{Tree, Limits}
+use Rattle.tree.specs.Store.{Store}
+use Rattle.tree.specs.Answers.{Value}
+use Rattle.tree.specs.Calls.{storeOf, lookupOf}
 use Rattle.registry.specs.Checks.{Checks}
-use Rattle.registry.specs.Path.{lookup}
+use Rattle.tree.specs.Path.{lookup}
 use Rattle.registry.proofs.Called.{call-sizes, call-unsound, call-sound}
 use Rattle.registry.proofs.get_transform.get_transform.Statement.{statement}
 use Rattle.registry.proofs.get_transform.get_transform.Tie as tie

@@ -1,8 +1,7 @@
 -- `registry::head_sound::children_rise` meets its contract. The invariant of its loop: each child passed is above the one before.
-use Prim.Native.Nat.{ℕ, _-_, _≤_, _<_}
+use Prim.Native.Nat.{_-_, _≤_}
 use native.Mathlib.Omega.{arith}
 use borrow.Author.Count.{below-more}
-use Rattle.registry.specs.Rows.{childAt}
 use Rattle.registry.proofs.HeadTests.{Neighbours, rise-fails, rise-all}
 use Rattle.registry.proofs.head_sound.children_rise.Statement.{statement}
 use Rattle.registry.proofs.head_sound.children_rise.Tie as tie

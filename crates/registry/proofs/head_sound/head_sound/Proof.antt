@@ -1,16 +1,16 @@
 -- `registry::head_sound::head_sound` meets its contract: the first test that fails decides.
-use Prim.Native.Nat.{ℕ, _≤_}
+use Prim.Native.Nat.{ℕ}
 use mathlib.Core.Path.{_≡_, refl, sym, _∙_}
-use mathlib.Core.Bool.{true, false}
+use mathlib.Core.Bool.{true}
 use mathlib.Core.List.{List, []}
 use native.Mathlib.Omega.{arith}
 use lib.Ieee.{Float}
 use borrow.Author.Needs.{needs}
 use borrow.Author.Tests.{not-true, not-false}
 use Rattle.buffer.specs.Map.{rising}
-use Rattle.registry.specs.Store.{usedIn, treeOf}
-use Rattle.registry.specs.Sound.{every}
-use Rattle.registry.specs.Calls.{storeOf}
+use Rattle.tree.specs.Store.{usedIn, treeOf}
+use Rattle.tree.specs.Sound.{every}
+use Rattle.tree.specs.Calls.{storeOf}
 use Rattle.registry.specs.Rows.{headOf, rowFits}
 use Rattle.registry.proofs.HeadTests.{rising-rows, too-many, not-rising, not-fitting, not-named, circle-decides}
 use Rattle.registry.proofs.head_sound.head_sound.Statement.{statement}

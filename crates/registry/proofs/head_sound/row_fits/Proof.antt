@@ -1,9 +1,9 @@
 use mathlib.Core.Path.{_≡_, sym, ap, _∙_}
-use Prim.Native.Nat.{ℕ, _≤_}
+use Prim.Native.Nat.{ℕ}
 use native.Mathlib.Omega.{arith}
 use lib.Dec.{leb}
 use borrow.Author.Needs.{needs}
-use Rattle.registry.specs.Store.{rowWord}
+use Rattle.tree.specs.Store.{rowWord}
 use Rattle.registry.specs.Rows.{headOf}
 use Rattle.registry.proofs.HeadTests.{child-wide, parent-wide, own-parent, kind-decides}
 use Rattle.registry.proofs.head_sound.row_fits.Statement.{statement}

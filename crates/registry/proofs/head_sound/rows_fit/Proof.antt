@@ -6,8 +6,8 @@ use native.Mathlib.Omega.{arith}
 use borrow.Author.Count.{below-none, below-more}
 use borrow.Author.Tests.{not-true, not-false}
 use Rattle.registry.specs.Rows.{rowFits}
-use Rattle.registry.proofs.Everys.{every-is}
-use Rattle.registry.proofs.AllTests.{every-fails}
+use Rattle.tree.proofs.Everys.{every-is}
+use Rattle.tree.proofs.AllTests.{every-fails}
 use Rattle.registry.proofs.head_sound.rows_fit.Statement.{statement}
 use Rattle.registry.proofs.head_sound.rows_fit.Tie as tie
 

@@ -5,7 +5,7 @@ use native.Mathlib.Nat.{mul-le-mul-right}
 use native.Mathlib.Omega.{arith}
 use lib.ListN.{getD}
 use borrow.Author.Needs.{needs}
-use Rattle.registry.specs.Calls.{storeOf}
+use Rattle.tree.specs.Calls.{storeOf}
 use Rattle.registry.proofs.RowInserting.{with-row}
 use Rattle.registry.proofs.new_row.new_row.Statement.{statement}
 use Rattle.registry.proofs.new_row.new_row.Tie as tie

@@ -8,7 +8,7 @@ use lib.Dec.{leb}
 use borrow.Author.Count.{below-none, below-more}
 use borrow.Author.Tests.{le-leb, lt-leb}
 use Rattle.buffer.proofs.Alls.{all-at}
-use Rattle.registry.proofs.AllTests.{all-fails}
+use Rattle.tree.proofs.AllTests.{all-fails}
 use Rattle.registry.proofs.no_circle.all_ended.Statement.{statement}
 use Rattle.registry.proofs.no_circle.all_ended.Tie as tie
 

@@ -1,10 +1,10 @@
 -- `registry::no_circle::double` meets its contract. The invariant of its loop: the first entries have moved on.
-use Prim.Native.Nat.{ℕ, suc, _+_, _-_, _≤_}
+use Prim.Native.Nat.{ℕ, _-_, _≤_}
 use mathlib.Core.Path.{_≡_, refl, sym, ap, _∙_}
 use mathlib.Core.List.{List}
 use native.Mathlib.Numerals.{add-one}
 use native.Mathlib.Omega.{arith}
-use lib.ListN.{length, getD, set, length-set}
+use lib.ListN.{length, set, length-set}
 use borrow.Author.Needs.{needs}
 use Rattle.registry.specs.Rows.{onward, moveOn, movedOn}
 use Rattle.registry.proofs.no_circle.double.Statement.{statement}

@@ -1,7 +1,7 @@
 use Prim.Native.Nat.{ℕ}
 use mathlib.Core.Path.{subst}
 use borrow.Author.Needs.{needs}
-use Rattle.registry.specs.Store.{rowWord}
+use Rattle.tree.specs.Store.{rowWord}
 use Rattle.registry.specs.Rows.{headOf, Finds}
 use Rattle.registry.proofs.Doubling.{up-row, up-root}
 use Rattle.registry.proofs.no_circle.parent_row.Statement.{statement}
@@ -19,8 +19,8 @@ parent-at-requires c κs = search needs
 find-row-requires : tie.Need-find-row-requires
 find-row-requires c κs = search needs
 
-enum-known-found : tie.Need-enum-known-found
-enum-known-found c = search needs
+enum-known-row : tie.Need-enum-known-row
+enum-known-row c = search needs
 
 enum-told : tie.Need-enum-told
 enum-told c = search needs
@@ -39,9 +39,9 @@ returns-2 c =
     let s = f .before .before .before in
     let a = s .args in
     up-row (a .used) (a .head .now) (s .pre .0) (a .r) (s .pre .1) _
-    (subst (Finds (a .used) (a .head .now) (rowWord (headOf (a .head .now)) (a .r) 1)) (c .before .found .given .1) (searched f))
+    (subst (Finds (a .used) (a .head .now) (rowWord (headOf (a .head .now)) (a .r) 1)) (c .before .row .given .1) (searched f))
 
 pub parent-row-spec : {M : Type 1} → statement M
 parent-row-spec =
     tie.close
-    (tie.spec parent-at-requires find-row-requires enum-known-found enum-told returns returns-2)
+    (tie.spec parent-at-requires find-row-requires enum-known-row enum-told returns returns-2)

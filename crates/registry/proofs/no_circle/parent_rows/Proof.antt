@@ -1,6 +1,6 @@
 -- `registry::no_circle::parent_rows` meets its contract. The invariant of its loop: each entry passed is one step up.
 use Prim.Native.Nat.{ℕ, _-_, _≤_, _<_}
-use mathlib.Core.Path.{_≡_, _∙_}
+use mathlib.Core.Path.{_≡_}
 use native.Mathlib.Omega.{arith}
 use lib.ListN.{length, getD, length-set}
 use Rattle.registry.specs.Rows.{IsUp}

@@ -1,17 +1,17 @@
 -- `registry::open::open` meets its contract: refused with every word as it was, or the words of the tree that holds nothing.
 use Prim.Native.Nat.{_≤_}
 use mathlib.Core.Path.{_≡_, sym, ap, _∙_}
-use mathlib.Core.Bool.{true, false}
+use mathlib.Core.Bool.{true}
 use native.Mathlib.Omega.{arith}
 use lib.ListN.{length, length-set}
 use borrow.Author.Needs.{needs}
 use borrow.Author.Tests.{not-true, not-false}
 use Rattle.buffer.specs.Answers.{ageOf}
-use Rattle.registry.specs.Tree.{Limits}
-use Rattle.registry.specs.Store.{sizesFit}
-use Rattle.registry.specs.Calls.{storeOf}
-use Rattle.registry.proofs.SizeLaws.{sizes-fit-is}
-use Rattle.registry.proofs.Opening.{open-refused, opened-unlimited, opened-aged}
+use Rattle.tree.specs.Tree.{Limits}
+use Rattle.tree.specs.Store.{sizesFit}
+use Rattle.tree.specs.Calls.{storeOf}
+use Rattle.tree.proofs.SizeLaws.{sizes-fit-is}
+use Rattle.tree.proofs.Opening.{open-refused, opened-unlimited, opened-aged}
 use Rattle.registry.proofs.open.open.Statement.{statement}
 use Rattle.registry.proofs.open.open.Tie as tie
 

@@ -3,7 +3,7 @@ use Prim.Native.Nat.{ℕ, _-_, _≤_, _<_}
 use mathlib.Core.Path.{_≡_, sym, _∙_}
 use native.Mathlib.Omega.{arith}
 use borrow.Author.Count.{below-more}
-use Rattle.registry.specs.Store.{rowWord}
+use Rattle.tree.specs.Store.{rowWord}
 use Rattle.registry.specs.Rows.{headOf}
 use Rattle.registry.proofs.TreeWalks.{parent-found, parent-nowhere}
 use Rattle.registry.proofs.path.is_parent.Statement.{statement}

@@ -2,8 +2,8 @@
 use mathlib.Core.Path.{_≡_, subst}
 use borrow.Author.Needs.{needs}
 use Rattle.registry.specs.declared.check.Checked.{Checked}
-use Rattle.registry.specs.Store.{Store}
-use Rattle.registry.specs.Calls.{storeOf}
+use Rattle.tree.specs.Store.{Store}
+use Rattle.tree.specs.Calls.{storeOf}
 use Rattle.registry.specs.Checks.{Checks}
 use Rattle.registry.proofs.RowWiping.{wipe-sizes, wipe-unsound}
 use Rattle.registry.proofs.remove_before.remove_before.Statement.{statement}

@@ -3,10 +3,10 @@ use Prim.Native.Nat.{ℕ}
 use mathlib.Core.Path.{ap, subst, _∙_}
 use native.Mathlib.Omega.{arith}
 use borrow.Author.Needs.{needs}
-use Rattle.registry.specs.Store.{Store, usedIn}
-use Rattle.registry.specs.Calls.{storeOf, wipeOf}
+use Rattle.tree.specs.Store.{Store, usedIn}
+use Rattle.tree.specs.Calls.{storeOf, wipeOf}
 use Rattle.registry.specs.Rows.{Finds, IsRow}
-use Rattle.registry.proofs.SoundParts.{rising-rows, row-part}
+use Rattle.registry.proofs.SoundStore.{sound-rows, sound-part}
 use Rattle.registry.proofs.RowWiping.{wipe-absent}
 use Rattle.registry.proofs.remove_before.wipe.Statement.{statement}
 use Rattle.registry.proofs.remove_before.wipe.Tie as tie
@@ -24,10 +24,10 @@ row c =
     subst (Finds (usedIn (store s)) (s .args .head .now) (s .args .child)) (c .found .given .1) (f .find-row .ensures)
 
 slice-read-used : tie.Need-slice-read-used
-slice-read-used c = let s = c .before .before .before .before in omega (arith, rising-rows (store s) (s .pre) .rows .within)
+slice-read-used c = let s = c .before .before .before .before in omega (arith, sound-rows (store s) (s .pre) .rows .within)
 
 find-row-requires : tie.Need-find-row-requires
-find-row-requires c κs = let s = c .before .before .before .before .before in rising-rows (store s) (s .pre)
+find-row-requires c κs = let s = c .before .before .before .before .before in sound-rows (store s) (s .pre)
 
 enum-known-found : tie.Need-enum-known-found
 enum-known-found c = search needs
@@ -50,7 +50,7 @@ wipe-row-requires c κs =
     let k = c .before .before .before .before in
     let s = start (k .before .before) in
     let l = row k .used in
-    (s .pre, row-part (store s) (s .pre) _ l, l)
+    (s .pre, sound-part (store s) (s .pre) _ l, l)
 
 same-length-2 : tie.Need-same-length-2
 same-length-2 c = search needs

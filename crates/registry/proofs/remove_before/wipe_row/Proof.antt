@@ -1,8 +1,10 @@
 -- `registry::remove_before::wipe_row` meets its contract: the parts that it lends are the row's.
 use borrow.Author.Needs.{needs}
-use Rattle.registry.specs.Store.{Store}
-use Rattle.registry.specs.Calls.{storeOf}
-use Rattle.registry.proofs.RowWiping.{row-lent, row-wiped}
+use Rattle.tree.specs.Store.{Store}
+use Rattle.tree.specs.Calls.{storeOf}
+use Rattle.registry.proofs.SoundStore.{sound-row-words}
+use Rattle.registry.proofs.RowHolding.{row-lent}
+use Rattle.registry.proofs.RowWiping.{row-wiped}
 use Rattle.registry.proofs.remove_before.wipe_row.Statement.{statement}
 use Rattle.registry.proofs.remove_before.wipe_row.Tie as tie
 
@@ -63,7 +65,7 @@ part-remove-before-end-2 c = search needs
 remove-before-requires : tie.Need-remove-before-requires
 remove-before-requires c κs =
     let k = c .before .before in
-    row-lent (store k) (start k .pre .0) (start k .args .r) (start k .pre .2) _ (k .count-at .ensures)
+    row-lent (store k) (start k .args .r) _ (k .count-at .ensures) (sound-row-words (store k) (start k .pre .0) (start k .args .r) (start k .pre .2))
 
 word-place-requires : tie.Need-word-place-requires
 word-place-requires c κs = search needs

@@ -5,10 +5,10 @@ use borrow.Author.Needs.{needs}
 use Rattle.time.specs.Reply.{answer}
 use Rattle.geometry.specs.declared.isometry.Isometry.{Isometry}
 use Rattle.geometry.specs.Isometry.{identity}
-use Rattle.registry.specs.Store.{Store, usedIn, treeOf}
-use Rattle.registry.specs.Answers.{pose}
-use Rattle.registry.specs.Calls.{storeOf}
-use Rattle.registry.specs.Path.{lookupAlong, lookupApart, lookup}
+use Rattle.tree.specs.Store.{Store, usedIn, treeOf}
+use Rattle.tree.specs.Answers.{pose}
+use Rattle.tree.specs.Calls.{storeOf}
+use Rattle.tree.specs.Path.{lookupAlong, lookupApart, lookup}
 use Rattle.registry.specs.Walks.{Posed}
 use Rattle.registry.proofs.AskTops.{asked-is}
 use Rattle.registry.proofs.SoundWalks.{sound-posed}

@@ -1,9 +1,9 @@
 -- `registry::resolve::resolve_known` meets its contract.
 use mathlib.Core.Path.{refl, _∙_}
 use borrow.Author.Needs.{needs}
-use Rattle.registry.specs.Tree.{Tree}
-use Rattle.registry.specs.Store.{treeOf}
-use Rattle.registry.specs.Calls.{storeOf}
+use Rattle.tree.specs.Tree.{Tree}
+use Rattle.tree.specs.Store.{treeOf}
+use Rattle.tree.specs.Calls.{storeOf}
 use Rattle.registry.specs.Walks.{AreTops}
 use Rattle.registry.proofs.AskTops.{composed-is, lookup-tops, lookup-apart, lookup-meets}
 use Rattle.registry.proofs.resolve.resolve_known.Statement.{statement}

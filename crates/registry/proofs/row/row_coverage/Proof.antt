@@ -1,9 +1,9 @@
 -- `registry::row::row_coverage` meets its contract.
 use mathlib.Core.Path.{_∙_}
 use mathlib.Core.List.{[]}
-use Rattle.registry.specs.Store.{Store, rowPoses}
-use Rattle.registry.specs.Calls.{storeOf}
-use Rattle.registry.proofs.RowParts.{part-instants, part-coverage}
+use Rattle.tree.specs.Store.{Store, rowPoses}
+use Rattle.tree.specs.Calls.{storeOf}
+use Rattle.tree.proofs.RowParts.{part-instants, part-coverage}
 use borrow.Author.Needs.{needs}
 use Rattle.registry.proofs.row.row_coverage.Statement.{statement}
 use Rattle.registry.proofs.row.row_coverage.Tie as tie

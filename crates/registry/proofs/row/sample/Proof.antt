@@ -1,8 +1,8 @@
 -- `registry::row::sample` meets its contract.
 use mathlib.Core.Path.{_∙_}
-use Rattle.registry.specs.Store.{Store}
-use Rattle.registry.specs.Calls.{storeOf}
-use Rattle.registry.proofs.RowParts.{part-row, part-served}
+use Rattle.tree.specs.Store.{Store}
+use Rattle.tree.specs.Calls.{storeOf}
+use Rattle.tree.proofs.RowParts.{part-row, part-served}
 use borrow.Author.Needs.{needs}
 use Rattle.registry.proofs.row.sample.Statement.{statement}
 use Rattle.registry.proofs.row.sample.Tie as tie

@@ -1,6 +1,6 @@
 use borrow.Author.Needs.{needs}
 use borrow.Author.Tests.{le-leb, lt-leb}
-use Rattle.registry.specs.Store.{sized}
+use Rattle.tree.specs.Store.{sized}
 use Rattle.registry.proofs.sizes.sized.Statement.{statement}
 use Rattle.registry.proofs.sizes.sized.Tie as tie
 
@@ -8,11 +8,11 @@ returns : tie.Need-returns
 unfolding sized
 returns c = simp (lt-leb _ _ (c .if1 .taken))
 
-shared-slice-read-sizes-fit : tie.Need-shared-slice-read-sizes-fit
-shared-slice-read-sizes-fit c = search needs
+shared-slice-read-rows : tie.Need-shared-slice-read-rows
+shared-slice-read-rows c = search needs
 
-shared-slice-read-sizes-fit-2 : tie.Need-shared-slice-read-sizes-fit-2
-shared-slice-read-sizes-fit-2 c = search needs
+shared-slice-read-places : tie.Need-shared-slice-read-places
+shared-slice-read-places c = search needs
 
 sizes-fit-requires : tie.Need-sizes-fit-requires
 sizes-fit-requires c κs = search needs
@@ -26,7 +26,7 @@ sized-spec =
     tie.close
     (tie.spec
     returns
-    shared-slice-read-sizes-fit
-    shared-slice-read-sizes-fit-2
+    shared-slice-read-rows
+    shared-slice-read-places
     sizes-fit-requires
     returns-2)

@@ -1,57 +1,74 @@
+-- `registry::sizes::sizes_fit` meets its contract: the first test that fails decides.
+use Prim.Native.Nat.{_+_, _*_}
+use mathlib.Core.Path.{_≡_, sym, _∙_}
 use native.Mathlib.Omega.{arith}
 use borrow.Author.Needs.{needs}
-use borrow.Author.Tests.{le-leb, lt-leb, eq-eqb, ne-eqb}
-use Rattle.registry.specs.Calls.{storeOf}
-use Rattle.registry.proofs.SizeTests.{area, sizes-but}
+use Rattle.tree.specs.Store.{Store}
+use Rattle.tree.specs.Calls.{storeOf}
+use Rattle.registry.proofs.SizeTests.{area, no-rows, many-rows, no-places, many-places, other-head, other-instants, poses-decide}
 use Rattle.registry.proofs.sizes.sizes_fit.Statement.{statement}
 use Rattle.registry.proofs.sizes.sizes_fit.Tie as tie
 
+abbrev store : tie.Start → Store
+store c = storeOf (c .args .head .now) (c .args .instants .now) (c .args .poses .now)
+
+-- from the last test of a limit back to the start
+abbrev start : tie.Else4 → tie.Start
+start c = c .before .before .before .before .before .before .before
+
+-- the head is as long as its rows ask
+place : (c : tie.After-word-place) → c .word-place .result ≡ 5 + 4 * start (c .before) .args .rows
+place c = omega (arith, c .word-place .ensures)
+
 returns : tie.Need-returns
-returns c = simp (lt-leb _ _ (c .if1 .taken))
+returns c = let s = c .before .before .before .before in no-rows (s .args .rows) (s .args .places) (store s) (c .if1 .taken)
 
 returns-2 : tie.Need-returns-2
-returns-2 c = simp (le-leb _ _ (c .before .if1 .left), lt-leb _ _ (c .if2 .taken))
+returns-2 c =
+    let b = c .before in
+    let s = b .before .before .before .before in
+    many-rows (s .args .rows) (s .args .places) (store s) (b .if1 .left) (c .if2 .taken)
 
 returns-3 : tie.Need-returns-3
 returns-3 c =
-    let b = c .before in
-    simp (le-leb _ _ (b .before .if1 .left), le-leb _ _ (b .if2 .left), lt-leb _ _ (c .if3 .taken))
+    let b = c .before .before in
+    no-places _ _ (store (b .before .before .before .before)) (b .if1 .left) (c .before .if2 .left) (c .if3 .taken)
 
 returns-4 : tie.Need-returns-4
 returns-4 c =
-    let b = c .before .before in
-    simp (le-leb _ _ (b .before .if1 .left), le-leb _ _ (b .if2 .left), le-leb _ _ (c .before .if3 .left), lt-leb _ _ (c .if4 .taken))
+    let b = c .before .before .before in
+    many-places _ _ (store (b .before .before .before .before)) (b .if1 .left) (c .before .before .if2 .left) (c .before .if3 .left) (c .if4 .taken)
 
 mul-words : tie.Need-mul-words
 mul-words c =
-    let a = c .before .before .before .before .args in
+    let a = start c .args in
     omega (arith, area (a .rows) (a .places) (omega arith) (omega arith))
 
-mul-if5 : tie.Need-mul-if5
-mul-if5 c = search needs
-
-add-if5 : tie.Need-add-if5
-add-if5 c = search needs
+word-place-requires : tie.Need-word-place-requires
+word-place-requires c κs = search needs
 
 returns-5 : tie.Need-returns-5
 returns-5 c =
-    let b = c .before .before .before in
-    simp (le-leb _ _ (b .before .if1 .left), le-leb _ _ (b .if2 .left), le-leb _ _ (c .before .before .if3 .left), le-leb _ _ (c .before .if4 .left), ne-eqb _ _ (c .if5 .taken))
+    let d = c .before .before in
+    let b = d .before .before .before in
+    other-head _ _ (store (start d)) (b .if1 .left) (d .before .before .if2 .left) (d .before .if3 .left) (d .if4 .left) (λ e. c .if5 .taken (e ∙ sym (place (c .before))))
 
 returns-6 : tie.Need-returns-6
 returns-6 c =
-    let b = c .before .before .before .before in
-    simp (le-leb _ _ (b .before .if1 .left), le-leb _ _ (b .if2 .left), le-leb _ _ (c .before .before .before .if3 .left), le-leb _ _ (c .before .before .if4 .left), eq-eqb _ _ (c .before .if5 .left), ne-eqb _ _ (c .if6 .taken))
+    let h = c .before in
+    let d = h .before .before in
+    let b = d .before .before .before in
+    other-instants _ _ (store (start d)) (b .if1 .left) (d .before .before .if2 .left) (d .before .if3 .left) (d .if4 .left) (h .if5 .left ∙ place (h .before)) (c .if6 .taken)
 
 mul-result : tie.Need-mul-result
 mul-result c = search needs
 
 returns-7 : tie.Need-returns-7
 returns-7 c =
-    let b = c .before .before .before .before in
-    let a = b .before .before .args in
-    sizes-but (a .rows) (a .places) (storeOf (a .head .now) (a .instants .now) (a .poses .now)) (b .before .if1 .left) (b .if2 .left)
-    (c .before .before .before .if3 .left) (c .before .before .if4 .left) (c .before .if5 .left) (c .if6 .left)
+    let h = c .before in
+    let d = h .before .before in
+    let b = d .before .before .before in
+    poses-decide _ _ (store (start d)) (b .if1 .left) (d .before .before .if2 .left) (d .before .if3 .left) (d .if4 .left) (h .if5 .left ∙ place (h .before)) (c .if6 .left)
 
 pub sizes-fit-spec : {M : Type 1} → statement M
 sizes-fit-spec =
@@ -62,8 +79,7 @@ sizes-fit-spec =
     returns-3
     returns-4
     mul-words
-    mul-if5
-    add-if5
+    word-place-requires
     returns-5
     returns-6
     mul-result

@@ -1,0 +1,12 @@
+pub mod Tree
+pub mod Store
+pub mod Sound
+pub mod Answers
+pub mod Path
+pub mod Calls
+pub mod History
+pub mod Demand3
+pub mod Laws
+pub mod PathLaws
+pub mod AsMap
+pub mod Readings
