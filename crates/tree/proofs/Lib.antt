@@ -39,3 +39,5 @@ pub mod RowParts
 pub mod SameParents
 pub mod SizeLaws
 pub mod Readings
+pub mod ReplyInjective
+pub mod EncodeInjective

@@ -1,7 +1,6 @@
 -- The calls on three lent slices: what each replies, and every word afterwards.
 use Prim.Native.Nat.{ℕ}
 use mathlib.Core.Bool.{not}
-use mathlib.Core.Option.{Option}
 use mathlib.Core.List.{List, []}
 use lib.Ieee.{Float}
 use Rattle.time.specs.Reply.{Reply, answer, refusal, nothing, refuse}

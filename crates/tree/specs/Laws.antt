@@ -10,7 +10,8 @@ use Rattle.buffer.specs.Row.{instantsSound, posesSound, FloatsFit}
 use Rattle.tree.specs.Tree.{Tree, Limits, Addition, add, wipe}
 use Rattle.tree.specs.Store.{Store, encode, treeOf, limitsOf, usedIn, sized}
 use Rattle.tree.specs.Sound.{framesFit, parentsDiffer, noCircle, NotAboveItself, sound}
-use Rattle.tree.specs.Answers.{done}
+use Rattle.tree.specs.declared.answer.Answer.{Answer}
+use Rattle.tree.specs.Answers.{done, replyOf}
 use Rattle.tree.specs.Calls.{openOf}
 
 -- "no circle", which climbs decide, means that no frame is above itself
@@ -45,6 +46,10 @@ SoundIsEncoded = (s : Store) → FloatsFit (s .poses) → sized s ≡ true → s
 abbrev pub EncodedIsSound : Type 0
 EncodedIsSound = (L : Limits) (t : Tree) → InRange (L .rows) (L .places) → SoundTree L t → (sized (encode L t) ≡ true) × (sound (encode L t) ≡ true)
 
+-- two sound trees with the same words are one
+abbrev pub EncodeInjective : Type 0
+EncodeInjective = (L : Limits) (t u : Tree) → 1 ≤ L .places → SoundTree L t → SoundTree L u → encode L t ≡ encode L u → t ≡ u
+
 -- ---- what calls leave
 
 -- a sound store of these sizes and this age, with no row used
@@ -66,3 +71,9 @@ AddKeepsSound = (L : Limits) (t u : Tree) (a : Addition) → a .child < 2 ^ 32 �
 -- a wipe that is answered leaves a sound tree sound
 abbrev pub WipeKeepsSound : Type 0
 WipeKeepsSound = (L : Limits) (t u : Tree) (f i : ℕ) → SoundTree L t → wipe t f i ≡ answer u → SoundTree L u
+
+-- ---- answers
+
+-- a reply fixes the enum's case and its values
+abbrev pub ReplyInjective : Type 0
+ReplyInjective = (a b : Answer) → replyOf a ≡ replyOf b → a ≡ b

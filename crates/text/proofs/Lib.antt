@@ -1,0 +1,9 @@
+pub mod Glyphs
+pub mod Words
+pub mod Forms
+pub mod Numbers
+pub mod Equal
+pub mod Places
+pub mod Stores
+pub mod FloatText
+pub mod RoundTrip

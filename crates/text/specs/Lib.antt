@@ -1,0 +1,5 @@
+pub mod Digits
+pub mod Reading
+pub mod Writing
+pub mod Answers
+pub mod Laws

@@ -1,0 +1,64 @@
+-- `store::all_floats` is safe and ends. Assumes nothing.
+use mathlib.Core.Path.{_≡_}
+use Prim.Native.Nat.{_-_}
+use borrow.Author.Needs.{needs}
+use lib.ListN.{length}
+use Rattle.transforms.proofs.store.all_floats.Statement.{statement}
+use Rattle.transforms.proofs.store.all_floats.Tie as tie
+
+abbrev Inv-loop : tie.InvT-loop
+Inv-loop name floats out₀ at to₀ i₀ out to i = length out ≡ length out₀
+
+abbrev μ-loop : tie.MeasureT-loop
+μ-loop name floats out₀ at to₀ i₀ out to i = length floats - i
+
+write-bytes-requires : tie.Need-write-bytes-requires Inv-loop μ-loop
+write-bytes-requires c κs = search needs
+
+loop-holds : tie.Need-loop-holds Inv-loop μ-loop
+loop-holds c = search needs
+
+spare-requires : tie.Need-spare-requires Inv-loop μ-loop
+spare-requires c κs = search needs
+
+mul-float-word : tie.Need-mul-float-word Inv-loop μ-loop
+mul-float-word c = search needs
+
+shared-slice-read-float-word : tie.Need-shared-slice-read-float-word Inv-loop μ-loop
+shared-slice-read-float-word c = search needs
+
+float-word-requires : tie.Need-float-word-requires Inv-loop μ-loop
+float-word-requires c κs = search needs
+
+add-i : tie.Need-add-i Inv-loop μ-loop
+add-i c = search needs
+
+loop-less : tie.Need-loop-less Inv-loop μ-loop
+loop-less c = search needs
+
+loop-again : tie.Need-loop-again Inv-loop μ-loop
+loop-again c = search needs
+
+same-length : tie.Need-same-length Inv-loop μ-loop
+same-length c = search needs
+
+returns : tie.Need-returns Inv-loop μ-loop
+returns c = search needs
+
+pub all-floats-spec : {M : Type 1} → statement M
+all-floats-spec =
+    tie.close
+    (tie.spec
+    Inv-loop
+    μ-loop
+    write-bytes-requires
+    loop-holds
+    spare-requires
+    mul-float-word
+    shared-slice-read-float-word
+    float-word-requires
+    add-i
+    loop-less
+    loop-again
+    same-length
+    returns)

@@ -1,0 +1,195 @@
+// The lines of standard input, each answered at its end.
+use super::answers;
+use super::memory;
+use super::memory::Reply;
+ghost use Prim.Native.Nat.{_<_};
+
+// How many bytes of the line are held, whether the line is too long, what the answers came to, and whether there is
+// more to read.
+struct State {
+    used: usize,
+    over: bool,
+    reply: Reply,
+    more: bool,
+}
+
+// An empty line and a comment get no answer.
+fn passed_over(line: &[u8]) -> bool {
+    if line.len() == 0 {
+        return true;
+    }
+    line[0] == b'#'
+}
+
+// The answer with its line end.
+fn answered(
+    line: &[u8],
+    over: bool,
+    head: &mut [u64],
+    instants: &mut [u64],
+    poses: &mut [f64],
+    out: &mut [u8],
+    before: Reply,
+) -> Reply {
+    if passed_over(line) {
+        return before;
+    }
+    let lent = before.lent;
+    let to = answers::spare(out, before.at);
+    if over {
+        let next = answers::malformed(out, to);
+        let at = answers::line_end(out, next);
+        return Reply { at, lent };
+    }
+    let reply = memory::answer(line, head, instants, poses, out, to, lent);
+    let end = answers::line_end(out, reply.at);
+    let left = reply.lent;
+    Reply {
+        at: end,
+        lent: left,
+    }
+}
+
+// The same of the first `used` bytes.
+fn take_line(
+    line: &[u8],
+    used: usize,
+    over: bool,
+    head: &mut [u64],
+    instants: &mut [u64],
+    poses: &mut [f64],
+    out: &mut [u8],
+    before: Reply,
+) -> Reply {
+    if line.len() < used {
+        return before;
+    }
+    answered(&line[0..used], over, head, instants, poses, out, before)
+}
+
+// Puts a byte at the line's end, if there is room, and answers the next place.
+fn hold(line: &mut [u8], used: usize, b: u8) -> usize {
+    if used < line.len() {
+        line[used] = b;
+        return used + 1;
+    }
+    used
+}
+
+// Takes one byte: a line end has the line answered, any other byte goes to the line's end.
+fn take(
+    b: u8,
+    line: &mut [u8],
+    head: &mut [u64],
+    instants: &mut [u64],
+    poses: &mut [f64],
+    out: &mut [u8],
+    st: State,
+) -> State {
+    let used = st.used;
+    let over = st.over;
+    let before = st.reply;
+    if b == b'\n' {
+        let reply = take_line(line, used, over, head, instants, poses, out, before);
+        return State {
+            used: 0,
+            over: false,
+            reply,
+            more: true,
+        };
+    }
+    let next = hold(line, used, b);
+    State {
+        used: next,
+        over: over | (next == used),
+        reply: before,
+        more: true,
+    }
+}
+
+// Takes the bytes of a chunk.
+fn feed(
+    chunk: &[u8],
+    line: &mut [u8],
+    head: &mut [u64],
+    instants: &mut [u64],
+    poses: &mut [f64],
+    out: &mut [u8],
+    st: State,
+) -> State {
+    let mut now = st;
+    let mut i = 0;
+    while i < chunk.len() {
+        now = take(chunk[i], line, head, instants, poses, out, now);
+        i += 1;
+    }
+    now
+}
+
+// Reads once and takes what came.
+fn turn(
+    line: &mut [u8],
+    head: &mut [u64],
+    instants: &mut [u64],
+    poses: &mut [f64],
+    out: &mut [u8],
+    st: State,
+) -> State {
+    let mut chunk = io::large_buffer();
+    let got = libc::read(0, &mut chunk);
+    if got <= 0 {
+        let reply = st.reply;
+        return State {
+            used: st.used,
+            over: st.over,
+            reply,
+            more: false,
+        };
+    }
+    let n = io::count(got, &chunk);
+    feed(&chunk[..n], line, head, instants, poses, out, st)
+}
+
+// The turns that are left: none where there is no more to read.
+fn left(turns: u64, more: bool) -> u64
+    requires { ⌜ 0 < turns ⌝ }
+    ensures { λ r. ⌜ r < turns ⌝ }
+{
+    if more { turns - 1 } else { 0 }
+}
+
+// All lines that end. The count of turns is one that no run uses up.
+fn read_all(
+    line: &mut [u8],
+    head: &mut [u64],
+    instants: &mut [u64],
+    poses: &mut [f64],
+    out: &mut [u8],
+) -> State {
+    let mut st = State {
+        used: 0,
+        over: false,
+        reply: memory::start(),
+        more: true,
+    };
+    let mut turns = u64::MAX;
+    while turns > 0 {
+        st = turn(line, head, instants, poses, out, st);
+        turns = left(turns, st.more);
+    }
+    st
+}
+
+// A last line with no line end is answered too.
+pub(crate) fn run(
+    line: &mut [u8],
+    head: &mut [u64],
+    instants: &mut [u64],
+    poses: &mut [f64],
+    out: &mut [u8],
+) {
+    let st = read_all(line, head, instants, poses, out);
+    let before = st.reply;
+    let reply = take_line(line, st.used, st.over, head, instants, poses, out, before);
+    answers::flush(out, reply.at);
+}

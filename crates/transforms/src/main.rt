@@ -1,0 +1,18 @@
+// Speaks the text protocol on standard input and output: a line for an operation, a line for its answer.
+mod answers;
+mod input;
+mod memory;
+mod operands;
+mod poses;
+mod store;
+
+// The lent memory is 65,536 samples, some 4 MB of the stack. It stands here and not in a function that answers it,
+// which a compiler that does not optimise would copy.
+fn main() {
+    let mut head = [0u64; 1029];
+    let mut instants = [0u64; 65536];
+    let mut poses = [0.0f64; 458752];
+    let mut line = [0u8; 512];
+    let mut out = io::large_buffer();
+    input::run(&mut line, &mut head, &mut instants, &mut poses, &mut out);
+}

@@ -1,0 +1,1 @@
+//! Glue: empty, where the Rust keeps its unit tests.

@@ -1,0 +1,31 @@
+#!/usr/bin/env python3
+"""generate.py SEED COUNT [bound]: a script of COUNT operations in the text protocol.
+
+The first mode never meets the sizes E and S, so that the Rust can answer it. The second, `bound`,
+meets them, writes words from outside, lends wrong lengths and has lines of wrong form.
+"""
+import random
+import sys
+
+import bounds
+import scenes
+
+
+def script(seed, count, mode):
+    """Lines; `count` of them get an answer."""
+    rng = random.Random(f"{mode} {seed}")
+    parts = {"free": scenes, "bound": bounds}[mode].scenes(rng)
+    while count > 0:
+        for text in next(parts):
+            if count > 0:
+                yield text
+                count -= bool(text) and not text.startswith("#")
+
+
+def main():
+    seed, count, *mode = sys.argv[1:]
+    sys.stdout.writelines(text + "\n" for text in script(seed, int(count), *mode or ["free"]))
+
+
+if __name__ == "__main__":
+    main()
