@@ -8,6 +8,7 @@ use super::transform::Answer;
 use super::vector3::Vector3;
 
 // A rotation followed by a translation.
+#[repr(C)]
 pub struct Isometry {
     pub translation: Vector3,
     pub rotation: Quaternion,

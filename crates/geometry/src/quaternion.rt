@@ -10,6 +10,7 @@ use super::libm::sin;
 use super::libm::sqrt;
 use super::vector3::Vector3;
 
+#[repr(C)]
 pub struct Quaternion {
     pub w: f64,
     pub x: f64,

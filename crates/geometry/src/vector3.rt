@@ -3,6 +3,7 @@ ghost use mathlib.Core.Path.{_≡_};
 ghost use Rattle.geometry.specs.Vector3.{zeroVector, add, scale, isFinite};
 use super::float::is_finite;
 
+#[repr(C)]
 pub struct Vector3 {
     pub x: f64,
     pub y: f64,

@@ -1,0 +1,3 @@
+pub mod Flat
+pub mod Flags
+pub mod Lengths
