@@ -28,9 +28,9 @@ use Rattle.tree.specs.Store.{Store, rowWords, encode, rowsIn, placesIn, usedIn,
 use Rattle.tree.specs.Sound.{sound}
 use Rattle.tree.specs.Answers.{done, replyOf}
 use Rattle.tree.specs.Calls.{outcome, storeOf, written, onTree, addOf}
-use Rattle.store.specs.Rows.{IsRow, IsAbsent}
+use Rattle.storage.specs.Rows.{IsRow, IsAbsent}
 use Rattle.adding.specs.NewRow.{RowRoom, emptyRow, rowInserted, withRow}
-use Rattle.store.specs.Checks.{RowPart, SoundStore}
+use Rattle.storage.specs.Checks.{RowPart, SoundStore}
 use Rattle.adding.specs.Adding.{addition, admits, EncodedRow, putInto}
 use Rattle.tree.proofs.answer.Answer as declared
 use Rattle.tree.proofs.SizeLaws.{sized-is}
@@ -39,9 +39,9 @@ use Rattle.tree.proofs.SoundIsEncoded.{soundIsEncoded}
 use Rattle.tree.proofs.StoreBack.{Fits, blank, limits-back, tree-back}
 use Rattle.tree.proofs.FitBlocks.{all-insert}
 use Rattle.tree.proofs.MapRows.{Gap, put-gap}
-use Rattle.store.proofs.TreeRows.{length-tree, tree-row, get-found, gap-absent, get-absent}
+use Rattle.storage.proofs.TreeRows.{length-tree, tree-row, get-found, gap-absent, get-absent}
 use Rattle.tree.proofs.EncodePut.{encode-new}
-use Rattle.store.proofs.SoundStore.{sound-rows, tree-fits}
+use Rattle.storage.proofs.SoundStore.{sound-rows, tree-fits}
 use Rattle.adding.proofs.EncodedRows.{encoded-part, encoded-held}
 use Rattle.adding.proofs.Admitting.{others, admits-decides, passed, failed}
 

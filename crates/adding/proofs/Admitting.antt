@@ -29,7 +29,7 @@ use Rattle.tree.specs.Tree.{Edge, Tree, Limits, Addition, isNew, ancestors, mem
 use Rattle.tree.specs.Answers.{Value, done, replyOf}
 use Rattle.tree.specs.Store.{Store, rowsIn, usedIn, treeOf, limitsOf}
 use Rattle.adding.specs.Adding.{addition, posed, admits}
-use Rattle.store.proofs.TreeRows.{length-tree}
+use Rattle.storage.proofs.TreeRows.{length-tree}
 use Rattle.tree.proofs.Accepted.{refusal-answer}
 
 -- ---- 3 and 4

@@ -13,12 +13,12 @@ use Rattle.buffer.proofs.Maps.{Rising, rising-is}
 use Rattle.buffer.proofs.RowBack.{words-row}
 use Rattle.tree.specs.Tree.{Edge, Tree, Limits}
 use Rattle.tree.specs.Store.{Store, encode, limitsOf, usedIn}
-use Rattle.store.specs.Checks.{RowPart, SoundStore}
+use Rattle.storage.specs.Checks.{RowPart, SoundStore}
 use Rattle.adding.specs.Adding.{EncodedRow}
 use Rattle.tree.proofs.Rules.{sound-is}
 use Rattle.tree.proofs.StoreBack.{Fits, blank, limits-back, length-head, length-instants, length-poses, word-back, instants-back, poses-back, tree-back}
 use Rattle.tree.proofs.SoundIsEncoded.{soundIsEncoded}
-use Rattle.store.proofs.SoundStore.{sound-row-words, tree-fits}
+use Rattle.storage.proofs.SoundStore.{sound-row-words, tree-fits}
 
 -- ---- a store that is sound
 

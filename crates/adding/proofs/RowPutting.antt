@@ -22,13 +22,13 @@ use Rattle.buffer.proofs.Maps.{rising-is}
 use Rattle.tree.specs.Store.{Store, encode, placesIn, ageIn, rowWord, rowInstants, rowPoses, rowAt, treeOf, limitsOf}
 use Rattle.tree.specs.Answers.{done}
 use Rattle.tree.specs.Calls.{outcome, written}
-use Rattle.store.specs.Checks.{RowPart}
+use Rattle.storage.specs.Checks.{RowPart}
 use Rattle.adding.specs.Adding.{EncodedRow, putInto}
 use Rattle.tree.proofs.Accepted.{refusal-answer}
 use Rattle.tree.proofs.StoreBack.{Fits}
-use Rattle.store.proofs.TreeRows.{length-tree}
+use Rattle.storage.proofs.TreeRows.{length-tree}
 use Rattle.tree.proofs.EncodePut.{holding}
-use Rattle.store.proofs.RowHolding.{first, wide, sevens, lentInstants, lentPoses, instants-lent, poses-lent, row-holding}
+use Rattle.storage.proofs.RowHolding.{first, wide, sevens, lentInstants, lentPoses, instants-lent, poses-lent, row-holding}
 
 module _ (s : Store) (r : ℕ) (part : RowPart r s) (h : EncodedRow r s) where
   pub held-fits : Fits (limitsOf s) (treeOf s)

@@ -6,11 +6,11 @@ use buffer::insert::Inserted;
 use buffer::kind::Kind;
 use geometry::isometry::Isometry;
 use geometry::transform;
-use store::check;
-use store::check::Checked;
-use store::find;
-use store::find::Found;
-use store::head;
+use storage::check;
+use storage::check::Checked;
+use storage::find;
+use storage::find::Found;
+use storage::head;
 use time::stamp::Stamp;
 use tree::answer::Answer;
 ghost use mathlib.Core.Path.{_≡_};
@@ -25,9 +25,9 @@ ghost use Rattle.tree.specs.Tree.{Limits, Tree, sameKind, kindOf, instantOf, ad
 ghost use Rattle.tree.specs.Store.{usedIn, rowWord, rowAt, limitsOf, treeOf};
 ghost use Rattle.tree.specs.Answers.{replyOf, done};
 ghost use Rattle.tree.specs.Calls.{outcome, storeOf, written, addOf};
-ghost use Rattle.store.specs.Checks.{RowPart, SoundStore};
+ghost use Rattle.storage.specs.Checks.{RowPart, SoundStore};
 ghost use Rattle.adding.specs.Adding.{addition, posed, admits, EncodedRow, putInto};
-ghost use Rattle.store.specs.Rows.{headOf, RisingRows, IsRow, IsAbsent};
+ghost use Rattle.storage.specs.Rows.{headOf, RisingRows, IsRow, IsAbsent};
 
 fn kind_of(stamp: Stamp) -> Kind
     ensures { λ k. ⌜ k ≡ kindOf stamp ⌝ }

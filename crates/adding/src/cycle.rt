@@ -1,7 +1,7 @@
 // The circle test of an addition.
-use store::find;
-use store::find::Found;
-use store::head;
+use storage::find;
+use storage::find::Found;
+use storage::head;
 ghost use mathlib.Core.Path.{_≡_};
 ghost use mathlib.Core.List.{List};
 ghost use Prim.Native.Nat.{ℕ};
@@ -9,7 +9,7 @@ ghost use lib.Ieee.{Float};
 ghost use Rattle.tree.specs.Tree.{ancestors, member};
 ghost use Rattle.tree.specs.Store.{treeOf};
 ghost use Rattle.tree.specs.Calls.{storeOf};
-ghost use Rattle.store.specs.Rows.{RisingRows};
+ghost use Rattle.storage.specs.Rows.{RisingRows};
 
 // Whether the child is above the parent, by a walk of at most as many steps as there are rows.
 pub(crate) fn creates_cycle(head: &[u64], used: usize, child: u64, parent: u64) -> bool

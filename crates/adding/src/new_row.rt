@@ -1,7 +1,7 @@
 // Room for a new child's row.
 use buffer::kind::Kind;
 use buffer::words;
-use store::head;
+use storage::head;
 ghost use mathlib.Core.Path.{_≡_};
 ghost use Prim.Native.Nat.{_+_, _*_, _≤_};
 ghost use lib.ListN.{length, replicate};

@@ -9,7 +9,7 @@ use Rattle.buffer.specs.Samples.{coverage}
 use Rattle.common_time.specs.declared.common.Narrowed.{Narrowed}
 use Rattle.tree.specs.Store.{rowWord, rowAt, treeOf}
 use Rattle.tree.specs.Calls.{storeOf}
-use Rattle.store.specs.Rows.{headOf, IsRow, IsAbsent}
+use Rattle.storage.specs.Rows.{headOf, IsRow, IsAbsent}
 use Rattle.walks.specs.Walks.{hopsTo, Walkable}
 use Rattle.common_time.specs.Spans.{Sofar, narrowBy, narrowed, narrowedReply}
 use Rattle.walks.proofs.SideHops.{hops-end, hops-found, hops-absent}

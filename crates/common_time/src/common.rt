@@ -1,8 +1,8 @@
 // Latest common time, on a store that is sized and sound.
 use buffer::coverage::Coverage;
-use store::find;
-use store::find::Found;
-use store::head;
+use storage::find;
+use storage::find::Found;
+use storage::head;
 use tree::answer::Answer;
 use tree::answer::Covered;
 use walks::path;
@@ -17,7 +17,7 @@ ghost use Rattle.tree.specs.Store.{usedIn, treeOf};
 ghost use Rattle.tree.specs.Answers.{replyOf};
 ghost use Rattle.tree.specs.Calls.{storeOf};
 ghost use Rattle.tree.specs.Path.{spans, meet, commonTime};
-ghost use Rattle.store.specs.Rows.{headOf};
+ghost use Rattle.storage.specs.Rows.{headOf};
 ghost use Rattle.walks.specs.Walks.{hopsTo, Walkable, askKnown};
 ghost use Rattle.common_time.specs.Spans.{commonOf, spanOf, narrowedReply, narrow, narrowBy, narrowed, agreed};
 

@@ -1,7 +1,7 @@
 // Latest common time.
 use super::common;
-use store::check;
-use store::check::Checked;
+use storage::check;
+use storage::check::Checked;
 use tree::answer::Answer;
 ghost use mathlib.Core.Path.{_≡_};
 ghost use Rattle.tree.specs.Answers.{replyOf};

@@ -10,7 +10,7 @@ use Rattle.buffer.specs.Samples.{served}
 use Rattle.buffer.specs.Answers.{gotReply}
 use Rattle.tree.specs.Store.{Store, rowAt, treeOf}
 use Rattle.tree.specs.Path.{onto, fold}
-use Rattle.store.specs.Rows.{IsRow, IsAbsent}
+use Rattle.storage.specs.Rows.{IsRow, IsAbsent}
 use Rattle.walks.specs.Walks.{hopsTo, Posed}
 use Rattle.walks.proofs.SideHops.{hops-end, hops-found, hops-absent}
 

@@ -2,9 +2,9 @@
 use buffer::get::Got;
 use geometry::isometry::Isometry;
 use geometry::transform;
-use store::find;
-use store::find::Found;
-use store::head;
+use storage::find;
+use storage::find::Found;
+use storage::head;
 use tree::answer::Answer;
 use tree::answer::Covered;
 use walks::row;

@@ -2,7 +2,7 @@
 use super::compose;
 use super::compose::Composed;
 use geometry::isometry::Isometry;
-use store::head;
+use storage::head;
 use tree::answer::Answer;
 use walks::path;
 use walks::path::Endpoints;
@@ -11,7 +11,7 @@ ghost use Rattle.tree.specs.Store.{treeOf};
 ghost use Rattle.tree.specs.Answers.{replyOf};
 ghost use Rattle.tree.specs.Calls.{storeOf};
 ghost use Rattle.tree.specs.Path.{lookupAlong, lookupApart, lookup};
-ghost use Rattle.store.specs.Checks.{SoundStore};
+ghost use Rattle.storage.specs.Checks.{SoundStore};
 ghost use Rattle.walks.specs.Walks.{Posed, askKnown};
 
 // Of two frames of the tree: the target's side first, and both before whether they meet.

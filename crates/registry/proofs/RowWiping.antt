@@ -22,16 +22,16 @@ use Rattle.tree.specs.Store.{Store, encode, placesIn, usedIn, kindOfWord, rowWo
 use Rattle.tree.specs.Sound.{sound}
 use Rattle.tree.specs.Answers.{done}
 use Rattle.tree.specs.Calls.{outcome, written, wipeOf}
-use Rattle.store.specs.Rows.{IsAbsent}
-use Rattle.store.specs.Checks.{SoundStore}
-use Rattle.store.proofs.Called.{call-sizes, call-unsound, call-sound}
+use Rattle.storage.specs.Rows.{IsAbsent}
+use Rattle.storage.specs.Checks.{SoundStore}
+use Rattle.storage.proofs.Called.{call-sizes, call-unsound, call-sound}
 use Rattle.tree.proofs.StoreRows.{instants-long}
 use Rattle.tree.proofs.SizeLaws.{sized-is}
 use Rattle.tree.proofs.Rules.{sound-is}
-use Rattle.store.proofs.SoundStore.{sound-rows, tree-fits}
+use Rattle.storage.proofs.SoundStore.{sound-rows, tree-fits}
 use Rattle.adding.proofs.EncodedRows.{sound-held}
-use Rattle.store.proofs.TreeRows.{get-found, get-absent}
-use Rattle.store.proofs.RowHolding.{first, wide, sevens, lentInstants, lentPoses, instants-lent, poses-lent, row-holding}
+use Rattle.storage.proofs.TreeRows.{get-found, get-absent}
+use Rattle.storage.proofs.RowHolding.{first, wide, sevens, lentInstants, lentPoses, instants-lent, poses-lent, row-holding}
 
 -- ---- refusals 1, 2 and 9
 

@@ -15,7 +15,7 @@ use Rattle.tree.specs.Store.{treeOf}
 use Rattle.tree.specs.Sound.{climb, noCircle}
 use Rattle.tree.specs.Calls.{storeOf}
 use Rattle.tree.specs.Path.{Hop, chain, until, any, side, connected, hops}
-use Rattle.store.specs.Rows.{RisingRows}
+use Rattle.storage.specs.Rows.{RisingRows}
 use Rattle.walks.specs.Walks.{OfTree, hopsTo, AreTops}
 use Rattle.tree.proofs.Climbing.{edge-or, Grounded, grounded-ranked, above-lower}
 use Rattle.tree.proofs.Ancestors.{ancestors-none, ancestors-some}

@@ -14,12 +14,12 @@ use Rattle.tree.specs.Tree.{Edge, Tree, ancestors}
 use Rattle.tree.specs.Store.{Store, rowAt, treeOf}
 use Rattle.tree.specs.Sound.{noCircle}
 use Rattle.tree.specs.Path.{chain, until, hops}
-use Rattle.store.specs.Rows.{RisingRows, IsRow, IsAbsent}
+use Rattle.storage.specs.Rows.{RisingRows, IsRow, IsAbsent}
 use Rattle.walks.specs.Walks.{hopsTo}
 use Rattle.tree.proofs.Climbing.{Grounded}
 use Rattle.tree.proofs.Ancestors.{ancestors-none, ancestors-some}
 use Rattle.tree.proofs.NoCircle.{circle-grounded}
-use Rattle.store.proofs.TreeRows.{tree-rises, get-found, get-absent}
+use Rattle.storage.proofs.TreeRows.{tree-rises, get-found, get-absent}
 
 pub hops-end : (t : Tree) (f : ℕ) → hopsTo t f f ≡ []
 hops-end t f = rw (eq-eqb f f refl)

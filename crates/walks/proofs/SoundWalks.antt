@@ -10,13 +10,13 @@ use Rattle.buffer.proofs.Maps.{rising-is}
 use Rattle.buffer.proofs.Alls.{all-get}
 use Rattle.buffer.proofs.Places.{row-held}
 use Rattle.tree.specs.Store.{Store, usedIn, rowWord, rowInstants, rowPoses, rowAt, treeOf}
-use Rattle.store.specs.Rows.{childAt}
-use Rattle.store.specs.Checks.{SoundStore}
+use Rattle.storage.specs.Rows.{childAt}
+use Rattle.storage.specs.Checks.{SoundStore}
 use Rattle.walks.specs.Walks.{HeldInstants, Walkable, Posed}
-use Rattle.store.proofs.TreeRows.{get-found}
+use Rattle.storage.proofs.TreeRows.{get-found}
 use Rattle.tree.proofs.SameParents.{circle-of-head}
 use Rattle.tree.proofs.Rules.{sound-is}
-use Rattle.store.proofs.SoundStore.{sound-rows, sound-part, sound-row-words}
+use Rattle.storage.proofs.SoundStore.{sound-rows, sound-part, sound-row-words}
 
 module _ (s : Store) (h : SoundStore s) where
   frames-fit : (r : ℕ) → r < usedIn s → childAt (s .head) r < 2 ^ 32

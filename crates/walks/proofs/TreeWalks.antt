@@ -13,11 +13,11 @@ use Rattle.tree.specs.Store.{rowWord, treeOf}
 use Rattle.tree.specs.Sound.{climb}
 use Rattle.tree.specs.Calls.{storeOf}
 use Rattle.tree.specs.Path.{isParent, known}
-use Rattle.store.specs.Rows.{headOf, UsedRows, RisingRows, IsRow, IsAbsent}
+use Rattle.storage.specs.Rows.{headOf, UsedRows, RisingRows, IsRow, IsAbsent}
 use Rattle.walks.specs.Walks.{OfTree}
 use Rattle.tree.proofs.StoreBack.{blank}
-use Rattle.store.proofs.TreeRows.{length-tree, tree-row, get-found, get-absent}
-use Rattle.store.proofs.CircleWalk.{above-root, above-up}
+use Rattle.storage.proofs.TreeRows.{length-tree, tree-row, get-found, get-absent}
+use Rattle.storage.proofs.CircleWalk.{above-root, above-up}
 
 -- ---- parents
 

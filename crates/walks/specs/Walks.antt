@@ -15,7 +15,7 @@ use Rattle.tree.specs.Store.{Store, placesIn, rowWord, rowInstants, rowPoses, t
 use Rattle.tree.specs.Sound.{noCircle}
 use Rattle.tree.specs.Answers.{Value, at}
 use Rattle.tree.specs.Calls.{storeOf}
-use Rattle.store.specs.Rows.{childAt, RisingRows}
+use Rattle.storage.specs.Rows.{childAt, RisingRows}
 use Rattle.tree.specs.Path.{Hop, chain, until, side, connected, hops, ask}
 
 -- P of the tree with this head, whatever its instants and poses

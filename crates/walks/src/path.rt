@@ -1,15 +1,15 @@
 // Two frames of the tree: whether they are there, how deep they lie, and where the climbs from
 // them end.
-use store::find;
-use store::find::Found;
-use store::head;
+use storage::find;
+use storage::find::Found;
+use storage::head;
 ghost use mathlib.Core.Path.{_≡_};
 ghost use mathlib.Core.Bool.{true};
 ghost use lib.ListN.{length};
 ghost use Rattle.tree.specs.Tree.{ancestors};
 ghost use Rattle.tree.specs.Sound.{climb, noCircle};
 ghost use Rattle.tree.specs.Path.{isParent, known};
-ghost use Rattle.store.specs.Rows.{UsedRows, RisingRows};
+ghost use Rattle.storage.specs.Rows.{UsedRows, RisingRows};
 ghost use Rattle.walks.specs.Walks.{OfTree, AskedBy, AreTops};
 
 fn is_parent(head: &[u64], used: usize, frame: u64) -> bool

@@ -2,7 +2,7 @@
 use buffer::coverage::Coverage;
 use buffer::get;
 use buffer::get::Got;
-use store::head;
+use storage::head;
 ghost use mathlib.Core.Path.{_≡_};
 ghost use mathlib.Core.List.{List, []};
 ghost use Prim.Native.Nat.{ℕ};

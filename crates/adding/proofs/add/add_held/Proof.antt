@@ -6,7 +6,7 @@ use Rattle.tree.specs.Store.{Store, rowAt, treeOf, limitsOf}
 use Rattle.tree.specs.Answers.{replyOf}
 use Rattle.tree.specs.Calls.{storeOf}
 use Rattle.adding.specs.Adding.{addition}
-use Rattle.store.proofs.SoundStore.{sound-part, sound-parent}
+use Rattle.storage.proofs.SoundStore.{sound-part, sound-parent}
 use Rattle.adding.proofs.EncodedRows.{sound-held}
 use Rattle.adding.proofs.AddWritten.{refused-written, held-get, held-written}
 use Rattle.adding.proofs.add.add_held.Statement.{statement}

@@ -8,9 +8,9 @@ use Rattle.tree.specs.Tree.{Addition}
 use Rattle.tree.specs.Store.{Store, rowsIn, usedIn, treeOf, limitsOf}
 use Rattle.tree.specs.Answers.{done, replyOf}
 use Rattle.tree.specs.Calls.{storeOf, written}
-use Rattle.store.specs.Checks.{RowPart}
+use Rattle.storage.specs.Checks.{RowPart}
 use Rattle.adding.specs.Adding.{addition, admits, EncodedRow, putInto}
-use Rattle.store.proofs.SoundStore.{sound-rows}
+use Rattle.storage.proofs.SoundStore.{sound-rows}
 use Rattle.adding.proofs.Admitting.{admits-room}
 use Rattle.adding.proofs.AddWritten.{refused-written, absent-get, row-room, new-asked, new-written}
 use Rattle.adding.proofs.add.add_new.Statement.{statement}

@@ -6,11 +6,11 @@ use borrow.Author.Needs.{needs}
 use Rattle.tree.specs.Store.{Store}
 use Rattle.tree.specs.Tree.{Addition}
 use Rattle.tree.specs.Calls.{storeOf}
-use Rattle.store.specs.Rows.{Finds}
-use Rattle.store.specs.Checks.{SoundStore, Checks}
+use Rattle.storage.specs.Rows.{Finds}
+use Rattle.storage.specs.Checks.{SoundStore, Checks}
 use Rattle.adding.specs.Adding.{addition}
-use Rattle.store.proofs.SoundStore.{sound-rows}
-use Rattle.store.proofs.Checking.{checked-sound}
+use Rattle.storage.proofs.SoundStore.{sound-rows}
+use Rattle.storage.proofs.Checking.{checked-sound}
 use Rattle.adding.proofs.AddWritten.{sizes-refused, rules-refused, sound-added}
 use Rattle.adding.proofs.add.add_transform.Statement.{statement}
 use Rattle.adding.proofs.add.add_transform.Tie as tie

@@ -4,7 +4,7 @@ use borrow.Author.Needs.{needs}
 use Rattle.buffer.specs.Answers.{ageOf, insertedReply}
 use Rattle.tree.specs.Store.{Store}
 use Rattle.tree.specs.Calls.{storeOf}
-use Rattle.store.proofs.RowHolding.{row-lent}
+use Rattle.storage.proofs.RowHolding.{row-lent}
 use Rattle.adding.proofs.RowPutting.{row-full, row-held}
 use Rattle.adding.proofs.add.put_row.Statement.{statement}
 use Rattle.adding.proofs.add.put_row.Tie as tie

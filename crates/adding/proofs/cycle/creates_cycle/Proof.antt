@@ -3,8 +3,8 @@ use Prim.Native.Nat.{ℕ, _-_, _≤_}
 use mathlib.Core.Path.{sym, _∙_, subst}
 use native.Mathlib.Omega.{arith}
 use borrow.Author.Needs.{needs}
-use Rattle.store.specs.Rows.{Finds, IsRow}
-use Rattle.store.proofs.CircleWalk.{Walked, walk-start, walk-root, walk-end, walk-here, walk-on}
+use Rattle.storage.specs.Rows.{Finds, IsRow}
+use Rattle.storage.proofs.CircleWalk.{Walked, walk-start, walk-root, walk-end, walk-here, walk-on}
 use Rattle.adding.proofs.cycle.creates_cycle.Statement.{statement}
 use Rattle.adding.proofs.cycle.creates_cycle.Tie as tie
 

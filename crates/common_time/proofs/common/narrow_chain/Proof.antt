@@ -6,7 +6,7 @@ use borrow.Author.Needs.{needs}
 use lib.ListN.{length}
 use Rattle.tree.specs.Tree.{ancestors}
 use Rattle.tree.specs.Store.{treeOf}
-use Rattle.store.specs.Rows.{headOf, Finds, IsRow}
+use Rattle.storage.specs.Rows.{headOf, Finds, IsRow}
 use Rattle.common_time.specs.Spans.{commonOf}
 use Rattle.walks.proofs.SideHops.{less-above}
 use Rattle.common_time.proofs.Narrowing.{Narrowing, narrowing-root, narrowing-top, narrowing-hop}

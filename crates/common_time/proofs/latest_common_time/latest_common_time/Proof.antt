@@ -2,14 +2,14 @@
 use mathlib.Core.Path.{_≡_, sym, subst, _∙_}
 use borrow.Author.Needs.{needs}
 use Rattle.time.specs.Reply.{Reply}
-use Rattle.store.specs.declared.check.Checked.{Checked}
+use Rattle.storage.specs.declared.check.Checked.{Checked}
 use Rattle.tree.specs.Tree.{Tree, Limits}
 use Rattle.tree.specs.Store.{Store}
 use Rattle.tree.specs.Answers.{Value}
 use Rattle.tree.specs.Calls.{storeOf, commonTimeOf}
-use Rattle.store.specs.Checks.{Checks}
+use Rattle.storage.specs.Checks.{Checks}
 use Rattle.tree.specs.Path.{commonTime}
-use Rattle.store.proofs.Called.{call-sizes, call-unsound, call-sound}
+use Rattle.storage.proofs.Called.{call-sizes, call-unsound, call-sound}
 use Rattle.walks.proofs.SoundWalks.{sound-walkable}
 use Rattle.common_time.proofs.latest_common_time.latest_common_time.Statement.{statement}
 use Rattle.common_time.proofs.latest_common_time.latest_common_time.Tie as tie

@@ -6,7 +6,7 @@ use lib.ListN.{length}
 use Rattle.tree.specs.Tree.{ancestors}
 use Rattle.tree.specs.Store.{Store, treeOf}
 use Rattle.tree.specs.Calls.{storeOf}
-use Rattle.store.specs.Rows.{Finds, IsRow}
+use Rattle.storage.specs.Rows.{Finds, IsRow}
 use Rattle.lookup.specs.Sides.{sideOf}
 use Rattle.walks.proofs.SideHops.{less-above}
 use Rattle.lookup.proofs.Composing.{Composing, composing-root, composing-top, composing-hop}

@@ -2,14 +2,14 @@
 use mathlib.Core.Path.{_≡_, sym, subst, _∙_}
 use borrow.Author.Needs.{needs}
 use Rattle.time.specs.Reply.{Reply}
-use Rattle.store.specs.declared.check.Checked.{Checked}
+use Rattle.storage.specs.declared.check.Checked.{Checked}
 use Rattle.tree.specs.Tree.{Tree, Limits}
 use Rattle.tree.specs.Store.{Store}
 use Rattle.tree.specs.Answers.{Value}
 use Rattle.tree.specs.Calls.{storeOf, lookupOf}
-use Rattle.store.specs.Checks.{Checks}
+use Rattle.storage.specs.Checks.{Checks}
 use Rattle.tree.specs.Path.{lookup}
-use Rattle.store.proofs.Called.{call-sizes, call-unsound, call-sound}
+use Rattle.storage.proofs.Called.{call-sizes, call-unsound, call-sound}
 use Rattle.lookup.proofs.get_transform.get_transform.Statement.{statement}
 use Rattle.lookup.proofs.get_transform.get_transform.Tie as tie
 

@@ -3,7 +3,7 @@ use Prim.Native.Nat.{ℕ, _+_, _-_, _≤_}
 use mathlib.Core.Path.{sym, subst}
 use native.Mathlib.Omega.{arith}
 use borrow.Author.Needs.{needs}
-use Rattle.store.specs.Rows.{Finds, IsRow}
+use Rattle.storage.specs.Rows.{Finds, IsRow}
 use Rattle.walks.proofs.TreeWalks.{Deep, deep-start, deep-root, deep-end, deep-on}
 use Rattle.walks.proofs.path.depth.Statement.{statement}
 use Rattle.walks.proofs.path.depth.Tie as tie

@@ -1,7 +1,7 @@
 -- `walks::path::frame_exists` meets its contract.
 use mathlib.Core.Path.{_∙_, subst}
 use borrow.Author.Needs.{needs}
-use Rattle.store.specs.Rows.{Finds}
+use Rattle.storage.specs.Rows.{Finds}
 use Rattle.walks.proofs.TreeWalks.{known-found, known-absent}
 use Rattle.walks.proofs.path.frame_exists.Statement.{statement}
 use Rattle.walks.proofs.path.frame_exists.Tie as tie

@@ -4,7 +4,7 @@ use mathlib.Core.Path.{_≡_, sym, _∙_}
 use native.Mathlib.Omega.{arith}
 use borrow.Author.Count.{below-more}
 use Rattle.tree.specs.Store.{rowWord}
-use Rattle.store.specs.Rows.{headOf}
+use Rattle.storage.specs.Rows.{headOf}
 use Rattle.walks.proofs.TreeWalks.{parent-found, parent-nowhere}
 use Rattle.walks.proofs.path.is_parent.Statement.{statement}
 use Rattle.walks.proofs.path.is_parent.Tie as tie

@@ -2,7 +2,7 @@
 use mathlib.Core.Path.{_∙_, subst}
 use native.Mathlib.Omega.{arith}
 use borrow.Author.Needs.{needs}
-use Rattle.store.specs.Rows.{Finds, IsRow}
+use Rattle.storage.specs.Rows.{Finds, IsRow}
 use Rattle.walks.proofs.TreeWalks.{up-found, up-absent}
 use Rattle.walks.proofs.path.step_up.Statement.{statement}
 use Rattle.walks.proofs.path.step_up.Tie as tie
