@@ -21,8 +21,8 @@ pub enum Answer {
     DurationUnderflow,
 }
 
-// The pose itself where it may be added.
-pub fn validate(pose: Isometry) -> Answer
+// The pose itself where it may be added, by its norm.
+fn by_norm(pose: Isometry) -> Answer
     ensures { λ r. ⌜ replyOf r ≡ validate pose ⌝ }
 {
     if !pose.translation.is_finite() {
@@ -50,4 +50,14 @@ pub fn is_valid(pose: Isometry) -> bool
     let squared = pose.rotation.dot(pose.rotation);
     let zero = (t.x - t.x) + (t.y - t.y) + (t.z - t.z);
     (zero == 0.0) & (LOWEST_SQUARED <= squared) & (squared <= HIGHEST_SQUARED)
+}
+
+// The pose itself where it may be added. A valid one needs no root.
+pub fn validate(pose: Isometry) -> Answer
+    ensures { λ r. ⌜ replyOf r ≡ validate pose ⌝ }
+{
+    if is_valid(pose) {
+        return Answer::Pose(pose);
+    }
+    by_norm(pose)
 }

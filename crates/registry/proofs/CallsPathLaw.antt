@@ -9,7 +9,7 @@ use Rattle.tree.specs.Store.{Store, encode, treeOf, limitsOf, sized}
 use Rattle.tree.specs.Sound.{sound}
 use Rattle.tree.specs.Answers.{done}
 use Rattle.tree.specs.Calls.{onTree, addOf, wipeOf, lookupOf, commonTimeOf}
-use Rattle.registry.specs.Checks.{SoundStore}
+use Rattle.storage.specs.Checks.{SoundStore}
 use Rattle.tree.specs.History.{isAnswer}
 use Rattle.tree.specs.Laws.{InRange, SoundTree}
 use Rattle.tree.specs.Path.{lookup, commonTime}
@@ -22,7 +22,7 @@ use Rattle.tree.proofs.SizeLaws.{sized-is}
 use Rattle.tree.proofs.Rules.{sound-is}
 use Rattle.tree.proofs.SoundIsEncoded.{sound-tree}
 use Rattle.tree.proofs.EncodedIsSound.{encodedIsSound}
-use Rattle.registry.proofs.Called.{call-sound}
+use Rattle.storage.proofs.Called.{call-sound}
 use Rattle.tree.proofs.AddKeepsSound.{addKeepsSound}
 use Rattle.tree.proofs.WipeKeepsSound.{wipeKeepsSound}
 use Rattle.tree.proofs.PathLaw.{pathLaw, pathLawWipe}

@@ -1,20 +1,7 @@
-// The frame tree over three lent slices, from src/core/registry of the Rust.
+// The frame tree over three lent slices, from src/core/registry of the Rust: opening and wiping, and
+// the calls of the crates adding, lookup and common_time.
 pub mod add;
-mod check;
-mod common;
-mod compose;
-mod cycle;
-mod find;
 pub mod get_transform;
-mod head;
-mod head_sound;
 pub mod latest_common_time;
-mod new_row;
-mod no_circle;
 pub mod open;
-mod path;
 pub mod remove_before;
-mod resolve;
-mod row;
-mod sizes;
-mod unused;

@@ -1,8 +1,8 @@
 // Opening a store.
-use super::head;
-use super::sizes;
 use buffer::max_age::MaxAge;
 use buffer::words;
+use storage::head;
+use storage::sizes;
 use tree::answer::Answer;
 ghost use mathlib.Core.Path.{_≡_};
 ghost use Rattle.buffer.specs.Answers.{ageOf};

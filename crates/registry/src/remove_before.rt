@@ -1,10 +1,10 @@
 // Wiping.
-use super::check;
-use super::check::Checked;
-use super::find;
-use super::find::Found;
-use super::head;
 use buffer::remove_before;
+use storage::check;
+use storage::check::Checked;
+use storage::find;
+use storage::find::Found;
+use storage::head;
 use tree::answer::Answer;
 ghost use mathlib.Core.Path.{_≡_};
 ghost use Prim.Native.Nat.{_<_};
@@ -12,7 +12,7 @@ ghost use Rattle.time.specs.Reply.{answer};
 ghost use Rattle.tree.specs.Store.{usedIn, rowWord};
 ghost use Rattle.tree.specs.Answers.{replyOf, done};
 ghost use Rattle.tree.specs.Calls.{outcome, storeOf, wipeOf};
-ghost use Rattle.registry.specs.Checks.{RowPart, SoundStore};
+ghost use Rattle.storage.specs.Checks.{RowPart, SoundStore};
 
 // Drops row r's samples before t, where it is a moving row.
 fn wipe_row(head: &mut [u64], instants: &mut [u64], poses: &mut [f64], r: usize, t: u64)

@@ -1,65 +1,42 @@
-use mathlib.Core.Path.{_≡_}
+-- `geometry::transform::validate` meets its contract: a pose that passes is the answer.
+use Prim.Native.Nat.{ℕ}
+use mathlib.Core.Path.{_≡_, refl, sym, subst, _∙_}
+use mathlib.Core.Bool.{Bool, true, false, not, _&&_}
+use lib.Dec.{T}
 use lib.Ieee.{lt}
 use borrow.Author.Needs.{needs}
-use borrow.Author.Tests.{not-true, not-false}
 use Rattle.time.specs.Float.{_⊖_, one64, abs}
-use Rattle.time.specs.Reply.{answer, norm, refuse}
-use Rattle.geometry.specs.Transform.{tolerance, validate}
-use Rattle.geometry.proofs.Tolerance.{either-side}
+use Rattle.time.specs.Reply.{Carried, answer, nothing, norm, refuse}
+use Rattle.geometry.specs.declared.isometry.Isometry.{Isometry}
+use Rattle.geometry.specs.Transform.{isValid, passes, tolerance, validate}
+use Rattle.geometry.specs.Vector3 as vector
+use Rattle.geometry.specs.Quaternion as quaternion
 use Rattle.geometry.proofs.transform.validate.Statement.{statement}
 use Rattle.geometry.proofs.transform.validate.Tie as tie
 
--- all components are finite, so the norm decides
-by-norm : (c : tie.After-norm) → let a = c .before .before .before .before .before .args .pose in
-    refuse (lt tolerance (abs (c .norm .result ⊖ one64))) 4 (norm (c .norm .result)) (answer a) ≡ validate a
-unfolding validate
-by-norm c =
-    let q = c .before .before in
-    let v = q .before .before in
-    rw (← v .is-finite .ensures, ← q .is-finite2 .ensures, ← c .norm .ensures)
-    (simp (not-false (v .is-finite .result) (q .before .if1 .left), not-false (q .is-finite2 .result) (c .before .if2 .left)))
+-- two tests that both let a pose pass
+both : (s t : Bool) (j k : ℕ) (c d : Carried) (a : Isometry) → passes (refuse s j c (refuse t k d (answer a))) ≡ true → answer a ≡ refuse s j c (refuse t k d (answer a))
+both true t j k c d a h = absurd (subst T (sym h) tt)
+both false true j k c d a h = absurd (subst T (sym h) tt)
+both false false j k c d a h = refl
 
-is-finite-requires : tie.Need-is-finite-requires
-is-finite-requires c κs = search needs
+passed : (a : Isometry) → isValid a ≡ true → answer a ≡ validate a
+unfolding validate
+passed a h =
+    let n = quaternion.norm (a .rotation) in
+    both (not (vector.isFinite (a .translation) && quaternion.isFinite (a .rotation))) (lt tolerance (abs (n ⊖ one64))) 3 4 nothing (norm n) a h
+
+is-valid-requires : tie.Need-is-valid-requires
+is-valid-requires c κs = search needs
 
 returns : tie.Need-returns
-unfolding validate
-returns c =
-    let v = c .before in
-    rw (← v .is-finite .ensures) (simp (not-true (v .is-finite .result) (c .if1 .taken)))
+returns c = passed (c .before .before .args .pose) (sym (c .before .is-valid .ensures) ∙ c .if1 .taken)
 
-is-finite-requires-2 : tie.Need-is-finite-requires-2
-is-finite-requires-2 c κs = search needs
+by-norm-requires : tie.Need-by-norm-requires
+by-norm-requires c κs = search needs
 
 returns-2 : tie.Need-returns-2
-unfolding validate
-returns-2 c =
-    let q = c .before in
-    let v = q .before .before in
-    rw (← v .is-finite .ensures, ← q .is-finite2 .ensures)
-    (simp (not-false (v .is-finite .result) (q .before .if1 .left), not-true (q .is-finite2 .result) (c .if2 .taken)))
-
-norm-requires : tie.Need-norm-requires
-norm-requires c κs = search needs
-
-returns-3 : tie.Need-returns-3
-returns-3 c = rw (← by-norm (c .before)) (simp (either-side, c .if3 .taken))
-
-returns-4 : tie.Need-returns-4
-returns-4 c = rw (← by-norm (c .before .before)) (simp (either-side, c .before .if3 .left, c .if4 .taken))
-
-returns-5 : tie.Need-returns-5
-returns-5 c = rw (← by-norm (c .before .before)) (simp (either-side, c .before .if3 .left, c .if4 .left))
+returns-2 c = search needs
 
 pub validate-spec : {M : Type 1} → statement M
-validate-spec =
-    tie.close
-    (tie.spec
-    is-finite-requires
-    returns
-    is-finite-requires-2
-    returns-2
-    norm-requires
-    returns-3
-    returns-4
-    returns-5)
+validate-spec = tie.close (tie.spec is-valid-requires returns by-norm-requires returns-2)

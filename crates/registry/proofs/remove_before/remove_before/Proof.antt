@@ -1,10 +1,10 @@
 -- `registry::remove_before::remove_before` meets its contract: 1, 2, or the wipe of a store that is sized and sound.
 use mathlib.Core.Path.{_≡_, subst}
 use borrow.Author.Needs.{needs}
-use Rattle.registry.specs.declared.check.Checked.{Checked}
+use Rattle.storage.specs.declared.check.Checked.{Checked}
 use Rattle.tree.specs.Store.{Store}
 use Rattle.tree.specs.Calls.{storeOf}
-use Rattle.registry.specs.Checks.{Checks}
+use Rattle.storage.specs.Checks.{Checks}
 use Rattle.registry.proofs.RowWiping.{wipe-sizes, wipe-unsound}
 use Rattle.registry.proofs.remove_before.remove_before.Statement.{statement}
 use Rattle.registry.proofs.remove_before.remove_before.Tie as tie

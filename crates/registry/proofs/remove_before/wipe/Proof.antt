@@ -5,8 +5,8 @@ use native.Mathlib.Omega.{arith}
 use borrow.Author.Needs.{needs}
 use Rattle.tree.specs.Store.{Store, usedIn}
 use Rattle.tree.specs.Calls.{storeOf, wipeOf}
-use Rattle.registry.specs.Rows.{Finds, IsRow}
-use Rattle.registry.proofs.SoundStore.{sound-rows, sound-part}
+use Rattle.storage.specs.Rows.{Finds, IsRow}
+use Rattle.storage.proofs.SoundStore.{sound-rows, sound-part}
 use Rattle.registry.proofs.RowWiping.{wipe-absent}
 use Rattle.registry.proofs.remove_before.wipe.Statement.{statement}
 use Rattle.registry.proofs.remove_before.wipe.Tie as tie

@@ -2,8 +2,8 @@
 use borrow.Author.Needs.{needs}
 use Rattle.tree.specs.Store.{Store}
 use Rattle.tree.specs.Calls.{storeOf}
-use Rattle.registry.proofs.SoundStore.{sound-row-words}
-use Rattle.registry.proofs.RowHolding.{row-lent}
+use Rattle.storage.proofs.SoundStore.{sound-row-words}
+use Rattle.storage.proofs.RowHolding.{row-lent}
 use Rattle.registry.proofs.RowWiping.{row-wiped}
 use Rattle.registry.proofs.remove_before.wipe_row.Statement.{statement}
 use Rattle.registry.proofs.remove_before.wipe_row.Tie as tie

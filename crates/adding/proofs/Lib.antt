@@ -1,0 +1,5 @@
+pub mod RowInserting
+pub mod RowPutting
+pub mod Admitting
+pub mod AddWritten
+pub mod EncodedRows

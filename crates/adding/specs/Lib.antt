@@ -1,0 +1,2 @@
+pub mod NewRow
+pub mod Adding

@@ -1,0 +1,4 @@
+// Addition.
+pub mod add;
+mod cycle;
+mod new_row;

@@ -1,0 +1,2 @@
+pub mod CommonHops
+pub mod Narrowing

@@ -1,0 +1,3 @@
+// Latest common time.
+mod common;
+pub mod latest_common_time;

@@ -1,0 +1,76 @@
+-- `lookup::get_transform::get_transform` meets its contract: 1, 2, or the lookup in a store that is sized and sound.
+use mathlib.Core.Path.{_≡_, sym, subst, _∙_}
+use borrow.Author.Needs.{needs}
+use Rattle.time.specs.Reply.{Reply}
+use Rattle.storage.specs.declared.check.Checked.{Checked}
+use Rattle.tree.specs.Tree.{Tree, Limits}
+use Rattle.tree.specs.Store.{Store}
+use Rattle.tree.specs.Answers.{Value}
+use Rattle.tree.specs.Calls.{storeOf, lookupOf}
+use Rattle.storage.specs.Checks.{Checks}
+use Rattle.tree.specs.Path.{lookup}
+use Rattle.storage.proofs.Called.{call-sizes, call-unsound, call-sound}
+use Rattle.lookup.proofs.get_transform.get_transform.Statement.{statement}
+use Rattle.lookup.proofs.get_transform.get_transform.Tie as tie
+
+abbrev store : tie.Start → Store
+store s = storeOf (s .args .head .now) (s .args .instants .now) (s .args .poses .now)
+
+abbrev start : tie.After-check → tie.Start
+start c = c .before .before .before .before
+
+abbrev asked : tie.Start → Limits → Tree → Reply Value
+asked s L t = lookup t (s .args .target) (s .args .source) (s .args .t)
+
+checked : (c : tie.After-check) (r : Checked) → c .check .result ≡ r → Checks (store (start c)) r
+checked c r e = subst (Checks (store (start c))) e (c .check .ensures)
+
+check-requires : tie.Need-check-requires
+check-requires c κs = search needs
+
+enum-told : tie.Need-enum-told
+enum-told c = search needs
+
+enum-told-2 : tie.Need-enum-told-2
+enum-told-2 c = search needs
+
+enum-told-3 : tie.Need-enum-told-3
+enum-told-3 c = search needs
+
+resolve-requires : tie.Need-resolve-requires
+resolve-requires c κs = checked (c .before .before) _ (c .enum-told3 .given .1)
+
+returns : tie.Need-returns
+unfolding lookupOf
+returns c =
+    let k = c .before .before in
+    let s = start k in
+    sym (call-sizes (store s) (asked s) (checked k _ (c .enum-told .given .1)))
+
+returns-2 : tie.Need-returns-2
+unfolding lookupOf
+returns-2 c =
+    let k = c .before .before in
+    let s = start k in
+    let e = checked k _ (c .enum-told2 .given .1) in
+    sym (call-unsound (store s) (asked s) (e .0) (e .1))
+
+returns-3 : tie.Need-returns-3
+unfolding lookupOf
+returns-3 c =
+    let k = c .before .before .before in
+    let s = start k in
+    c .resolve .ensures ∙ sym (call-sound (store s) (asked s) (checked k _ (c .before .enum-told3 .given .1)))
+
+pub get-transform-spec : {M : Type 1} → statement M
+get-transform-spec =
+    tie.close
+    (tie.spec
+    check-requires
+    enum-told
+    enum-told-2
+    enum-told-3
+    resolve-requires
+    returns
+    returns-2
+    returns-3)

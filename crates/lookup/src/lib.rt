@@ -1,0 +1,4 @@
+// Lookup.
+mod compose;
+pub mod get_transform;
+mod resolve;

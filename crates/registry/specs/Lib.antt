@@ -1,4 +1,0 @@
-pub mod Rows
-pub mod Checks
-pub mod Adding
-pub mod Walks

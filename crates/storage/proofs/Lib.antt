@@ -1,0 +1,11 @@
+pub mod SizeTests
+pub mod RowSearch
+pub mod TreeRows
+pub mod CircleWalk
+pub mod Doubling
+pub mod HeadTests
+pub mod Checking
+pub mod SoundStore
+pub mod Called
+pub mod RowHolding
+pub mod HeadWords

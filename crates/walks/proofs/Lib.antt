@@ -1,0 +1,5 @@
+pub mod SideHops
+pub mod MeetingFrame
+pub mod TreeWalks
+pub mod AskTops
+pub mod SoundWalks

@@ -1,0 +1,129 @@
+// Two frames of the tree: whether they are there, how deep they lie, and where the climbs from
+// them end.
+use storage::find;
+use storage::find::Found;
+use storage::head;
+ghost use mathlib.Core.Path.{_≡_};
+ghost use mathlib.Core.Bool.{true};
+ghost use lib.ListN.{length};
+ghost use Rattle.tree.specs.Tree.{ancestors};
+ghost use Rattle.tree.specs.Sound.{climb, noCircle};
+ghost use Rattle.tree.specs.Path.{isParent, known};
+ghost use Rattle.storage.specs.Rows.{UsedRows, RisingRows};
+ghost use Rattle.walks.specs.Walks.{OfTree, AskedBy, AreTops};
+
+fn is_parent(head: &[u64], used: usize, frame: u64) -> bool
+    requires { ⌜ UsedRows used (now head) ⌝ }
+    ensures { λ r. ⌜ OfTree (now (head .entry)) (λ t. r ≡ isParent frame t) ⌝ }
+{
+    let mut row = 0;
+    while row < used {
+        if head::parent_at(head, row) == frame {
+            return true;
+        }
+        row += 1;
+    }
+    false
+}
+
+// Whether the frame is a child or a parent.
+fn frame_exists(head: &[u64], used: usize, frame: u64) -> bool
+    requires { ⌜ RisingRows used (now head) ⌝ }
+    ensures { λ r. ⌜ OfTree (now (head .entry)) (λ t. r ≡ known t frame) ⌝ }
+{
+    let found = find::find_row(head, used, frame);
+    if let Found::At(_) = found {
+        return true;
+    }
+    is_parent(head, used, frame)
+}
+
+// What two frames are to a question about their path.
+pub enum Endpoints {
+    Same,
+    Unknown(u32),
+    Known,
+}
+
+// One frame twice first, even when unknown; then the target.
+pub fn find_frames(head: &[u64], used: usize, target: u32, source: u32) -> Endpoints
+    requires { ⌜ RisingRows used (now head) ⌝ }
+    ensures { λ r. ⌜ OfTree (now (head .entry)) (λ t. AskedBy t target source r) ⌝ }
+{
+    if target == source {
+        return Endpoints::Same;
+    }
+    if !frame_exists(head, used, target as u64) {
+        return Endpoints::Unknown(target);
+    }
+    if !frame_exists(head, used, source as u64) {
+        return Endpoints::Unknown(source);
+    }
+    Endpoints::Known
+}
+
+// The frame's parent, or the frame itself where it is no child.
+fn step_up(head: &[u64], used: usize, frame: u64) -> u64
+    requires { ⌜ RisingRows used (now head) ⌝ }
+    ensures { λ r. ⌜ OfTree (now (head .entry)) (λ t. r ≡ climb 1 t frame) ⌝ }
+{
+    let found = find::find_row(head, used, frame);
+    let Found::At(row) = found else {
+        return frame;
+    };
+    head::parent_at(head, row)
+}
+
+// How many frames are above the frame, by a walk of at most as many steps as there are rows.
+fn depth(head: &[u64], used: usize, frame: u64) -> usize
+    requires { ⌜ RisingRows used (now head) ⌝ }
+    ensures { λ r. ⌜ OfTree (now (head .entry)) (λ t. r ≡ length (ancestors t frame)) ⌝ }
+{
+    let mut at = frame;
+    let mut steps = 0;
+    while steps < used {
+        let found = find::find_row(head, used, at);
+        let Found::At(row) = found else {
+            return steps;
+        };
+        at = head::parent_at(head, row);
+        steps += 1;
+    }
+    steps
+}
+
+// Where the climbs from two frames end: both at the frame where they meet, or each at its root.
+pub struct Tops {
+    pub target: u64,
+    pub source: u64,
+}
+
+// Whichever lies deeper climbs, until they meet or are both at a root.
+pub fn meeting(head: &[u64], used: usize, target: u64, source: u64) -> Tops
+    requires { ⌜ RisingRows used (now head) ⌝ }
+    ensures { λ r. ⌜ OfTree (now (head .entry)) (λ t. noCircle t ≡ true → AreTops t target source (r .target) (r .source)) ⌝ }
+{
+    let mut f = target;
+    let mut g = source;
+    let mut above_f = depth(head, used, f);
+    let mut above_g = depth(head, used, g);
+    while f != g {
+        if above_f < above_g {
+            g = step_up(head, used, g);
+            above_g -= 1;
+        } else {
+            if above_f == 0 {
+                return Tops {
+                    target: f,
+                    source: g,
+                };
+            }
+            f = step_up(head, used, f);
+            above_f -= 1;
+        }
+    }
+    Tops {
+        target: f,
+        source: g,
+    }
+}
