@@ -2,6 +2,7 @@ pub mod Isqrt
 pub mod Powers
 pub mod Compare
 pub mod RootDigits
+pub mod LowerDigits
 pub mod RootRounded
 pub mod Split
 pub mod Pack

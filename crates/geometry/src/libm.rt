@@ -6,6 +6,7 @@ ghost use lib.Ieee.{binary64, ofBits};
 ghost use Rattle.time.specs.Float.{whole};
 ghost use Rattle.geometry.specs.Sqrt.{rootUnits, sqrt, unitsOf};
 ghost use Rattle.geometry.specs.Libm.{numerator, denominator, acos, sin};
+use super::float::to_bits;
 
 // A root in whole numbers, and what is left below the radicand.
 pub struct Digits {
@@ -21,7 +22,7 @@ pub struct Parts {
 
 // The whole root of n * 2^54, a binary digit at a time. At each turn root * root + rest * bit is
 // n * 2^54.
-fn root_digits(n: u64) -> Digits
+fn digit_by_digit(n: u64) -> Digits
     requires { ⌜ n < 2 ^ 54 ⌝ }
     ensures { λ r. ⌜ (r .root * r .root + r .rest ≡ n * 2 ^ 54) × (r .rest ≤ 2 * r .root) ⌝ }
 {
@@ -38,6 +39,90 @@ fn root_digits(n: u64) -> Digits
         }
     }
     Digits { root, rest }
+}
+
+// Half the bits of n as an f64, less those of its least exponent, for n from 2^52.
+fn half_bits(n: u64) -> u64
+    requires { ⌜ n < 2 ^ 54 ⌝ }
+    ensures { λ r. ⌜ r ≤ 2 ^ 53 ⌝ }
+{
+    if n < 0x20_0000_0000_0000 {
+        return n / 2;
+    }
+    n / 4 + 0x8_0000_0000_0000
+}
+
+// The whole root of n or one more, for n from 2^52: the reciprocal root, estimated by its bits, then
+// three of Newton's steps, with n/2 * y * y carried from one to the next. Only speed rests on it.
+fn root_estimate(n: u64) -> u64
+    requires { ⌜ n < 2 ^ 54 ⌝ }
+    ensures { λ r. ⌜ r < 2 ^ 52 ⌝ }
+{
+    let half = (n / 2) as f64;
+    let y = f64::from_bits(0x3e56_ed21_02dc_bfda - half_bits(n));
+    let a = half * y * y;
+    let u = 1.5008789551163345 - a;
+    let b = a * (u * u);
+    let v = 1.5000005796762577 - b;
+    let c = b * (v * v);
+    let w = 1.5 - c;
+    let root = half * (y * u * v) * (w * 2.00000000003);
+    to_bits(root + 4503599627370495.5) % 0x10_0000_0000_0000
+}
+
+// From the upper half of the root's digits and what is left below the radicand, the lower half: a
+// quotient, or one less where its square is more than is left.
+fn lower_digits(upper: u64, rest: u64) -> Digits
+    requires { ⌜ (2 ^ 26 ≤ upper) × (upper ≤ 2 ^ 27) × (rest ≤ 2 * upper) ⌝ }
+    ensures { λ r. ⌜ (r .root * r .root + r .rest ≡ (upper * upper + rest) * 2 ^ 54) × (r .rest ≤ 2 * r .root) ⌝ }
+{
+    let lower = rest * 0x400_0000 / upper;
+    let left = rest * 0x400_0000 % upper * 0x1000_0000;
+    let root = upper * 0x800_0000 + lower;
+    let square = lower * lower;
+    if square <= left {
+        return Digits {
+            root,
+            rest: left - square,
+        };
+    }
+    Digits {
+        root: root - 1,
+        rest: left + (root * 2 - 1) - square,
+    }
+}
+
+// The whole root of n * 2^54, if `upper` is that of n, by one division.
+fn root_from(n: u64, upper: u64) -> Digits
+    requires { ⌜ (n < 2 ^ 54) × (upper ≤ 2 ^ 27) ⌝ }
+    ensures { λ r. ⌜ (r .root * r .root + r .rest ≡ n * 2 ^ 54) × (r .rest ≤ 2 * r .root) ⌝ }
+{
+    let square = upper * upper;
+    if upper < 0x400_0000 {
+        return digit_by_digit(n);
+    }
+    if n < square {
+        return digit_by_digit(n);
+    }
+    if upper * 2 < n - square {
+        return digit_by_digit(n);
+    }
+    lower_digits(upper, n - square)
+}
+
+// The whole root of n * 2^54, and what is left.
+fn root_digits(n: u64) -> Digits
+    requires { ⌜ n < 2 ^ 54 ⌝ }
+    ensures { λ r. ⌜ (r .root * r .root + r .rest ≡ n * 2 ^ 54) × (r .rest ≤ 2 * r .root) ⌝ }
+{
+    let upper = root_estimate(n);
+    if 0x800_0000 < upper {
+        return digit_by_digit(n);
+    }
+    if n < upper * upper {
+        return root_from(n, upper - 1);
+    }
+    root_from(n, upper)
 }
 
 // The significand at its full 53 digits, and the exponent, of a positive finite value. A subnormal
