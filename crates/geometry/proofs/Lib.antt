@@ -12,6 +12,7 @@ pub mod SqrtCases
 pub mod Neighbours
 pub mod SqrtNearest
 pub mod Table
+pub mod Enclosure
 pub mod Series
 pub mod Tolerance
 pub mod ReplyInjective

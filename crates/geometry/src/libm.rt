@@ -3,10 +3,11 @@
 ghost use mathlib.Core.Path.{_≡_};
 ghost use Prim.Native.Nat.{_+_, _*_, _^_, _<_, _≤_};
 ghost use lib.Ieee.{binary64, ofBits};
-ghost use Rattle.time.specs.Float.{whole};
 ghost use Rattle.geometry.specs.Sqrt.{rootUnits, sqrt, unitsOf};
-ghost use Rattle.geometry.specs.Libm.{numerator, denominator, acos, sin};
+ghost use Rattle.geometry.specs.Libm.{acos, sin};
 use super::float::to_bits;
+use super::terms::acos_sum;
+use super::terms::denominator;
 
 // A root in whole numbers, and what is left below the radicand.
 pub struct Digits {
@@ -195,137 +196,12 @@ pub fn sqrt(x: f64) -> f64
     f64::from_bits(root_pattern(f64::to_bits(x)))
 }
 
-// (2k-1)^2, for k from 1 to 48
-const NUMERATORS: [u16; 48] = [
-    1,
-    9,
-    25,
-    49,
-    81,
-    121,
-    169,
-    225,
-    289,
-    361,
-    441,
-    529,
-    625,
-    729,
-    841,
-    961,
-    1089,
-    1225,
-    1369,
-    1521,
-    1681,
-    1849,
-    2025,
-    2209,
-    2401,
-    2601,
-    2809,
-    3025,
-    3249,
-    3481,
-    3721,
-    3969,
-    4225,
-    4489,
-    4761,
-    5041,
-    5329,
-    5625,
-    5929,
-    6241,
-    6561,
-    6889,
-    7225,
-    7569,
-    7921,
-    8281,
-    8649,
-    9025,
-];
-
-// 2k(2k+1), for k from 1 to 48
-const DENOMINATORS: [u16; 48] = [
-    6,
-    20,
-    42,
-    72,
-    110,
-    156,
-    210,
-    272,
-    342,
-    420,
-    506,
-    600,
-    702,
-    812,
-    930,
-    1056,
-    1190,
-    1332,
-    1482,
-    1640,
-    1806,
-    1980,
-    2162,
-    2352,
-    2550,
-    2756,
-    2970,
-    3192,
-    3422,
-    3660,
-    3906,
-    4160,
-    4422,
-    4692,
-    4970,
-    5256,
-    5550,
-    5852,
-    6162,
-    6480,
-    6806,
-    7140,
-    7482,
-    7832,
-    8190,
-    8556,
-    8930,
-    9312,
-];
-
-fn numerator(k: usize) -> f64
-    requires { ⌜ (1 ≤ k) × (k ≤ 48) ⌝ }
-    ensures { λ r. ⌜ r ≡ whole (numerator k) ⌝ }
-{
-    let i = k - 1;
-    NUMERATORS[i] as f64
-}
-
-fn denominator(k: usize) -> f64
-    requires { ⌜ (1 ≤ k) × (k ≤ 48) ⌝ }
-    ensures { λ r. ⌜ r ≡ whole (denominator k) ⌝ }
-{
-    let i = k - 1;
-    DENOMINATORS[i] as f64
-}
-
 pub fn acos(d: f64) -> f64
     ensures { λ r. ⌜ r ≡ acos d ⌝ }
 {
-    let z = sqrt((1.0 - d) / 2.0);
-    let mut h = 1.0f64;
-    let mut k = 48usize;
-    while 0 < k {
-        h = 1.0 + z * z * (numerator(k) / denominator(k)) * h;
-        k = k - 1;
-    }
-    2.0 * (z * h)
+    let near = (1.0 - d) / 2.0;
+    let z = sqrt(near);
+    2.0 * (z * acos_sum(z, near))
 }
 
 pub fn sin(a: f64) -> f64
