@@ -2,6 +2,7 @@ pub mod Isqrt
 pub mod Powers
 pub mod Compare
 pub mod RootDigits
+pub mod LowerDigits
 pub mod RootRounded
 pub mod Split
 pub mod Pack
@@ -11,6 +12,7 @@ pub mod SqrtCases
 pub mod Neighbours
 pub mod SqrtNearest
 pub mod Table
+pub mod Enclosure
 pub mod Series
 pub mod Tolerance
 pub mod ReplyInjective

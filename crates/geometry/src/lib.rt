@@ -4,5 +4,6 @@ pub mod float;
 pub mod isometry;
 pub mod libm;
 pub mod quaternion;
+pub mod terms;
 pub mod transform;
 pub mod vector3;

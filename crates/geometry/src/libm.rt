@@ -3,9 +3,11 @@
 ghost use mathlib.Core.Path.{_≡_};
 ghost use Prim.Native.Nat.{_+_, _*_, _^_, _<_, _≤_};
 ghost use lib.Ieee.{binary64, ofBits};
-ghost use Rattle.time.specs.Float.{whole};
 ghost use Rattle.geometry.specs.Sqrt.{rootUnits, sqrt, unitsOf};
-ghost use Rattle.geometry.specs.Libm.{numerator, denominator, acos, sin};
+ghost use Rattle.geometry.specs.Libm.{acos, sin};
+use super::float::to_bits;
+use super::terms::acos_sum;
+use super::terms::denominator;
 
 // A root in whole numbers, and what is left below the radicand.
 pub struct Digits {
@@ -21,7 +23,7 @@ pub struct Parts {
 
 // The whole root of n * 2^54, a binary digit at a time. At each turn root * root + rest * bit is
 // n * 2^54.
-fn root_digits(n: u64) -> Digits
+fn digit_by_digit(n: u64) -> Digits
     requires { ⌜ n < 2 ^ 54 ⌝ }
     ensures { λ r. ⌜ (r .root * r .root + r .rest ≡ n * 2 ^ 54) × (r .rest ≤ 2 * r .root) ⌝ }
 {
@@ -38,6 +40,90 @@ fn root_digits(n: u64) -> Digits
         }
     }
     Digits { root, rest }
+}
+
+// Half the bits of n as an f64, less those of its least exponent, for n from 2^52.
+fn half_bits(n: u64) -> u64
+    requires { ⌜ n < 2 ^ 54 ⌝ }
+    ensures { λ r. ⌜ r ≤ 2 ^ 53 ⌝ }
+{
+    if n < 0x20_0000_0000_0000 {
+        return n / 2;
+    }
+    n / 4 + 0x8_0000_0000_0000
+}
+
+// The whole root of n or one more, for n from 2^52: the reciprocal root, estimated by its bits, then
+// three of Newton's steps, with n/2 * y * y carried from one to the next. Only speed rests on it.
+fn root_estimate(n: u64) -> u64
+    requires { ⌜ n < 2 ^ 54 ⌝ }
+    ensures { λ r. ⌜ r < 2 ^ 52 ⌝ }
+{
+    let half = (n / 2) as f64;
+    let y = f64::from_bits(0x3e56_ed21_02dc_bfda - half_bits(n));
+    let a = half * y * y;
+    let u = 1.5008789551163345 - a;
+    let b = a * (u * u);
+    let v = 1.5000005796762577 - b;
+    let c = b * (v * v);
+    let w = 1.5 - c;
+    let root = half * (y * u * v) * (w * 2.00000000003);
+    to_bits(root + 4503599627370495.5) % 0x10_0000_0000_0000
+}
+
+// From the upper half of the root's digits and what is left below the radicand, the lower half: a
+// quotient, or one less where its square is more than is left.
+fn lower_digits(upper: u64, rest: u64) -> Digits
+    requires { ⌜ (2 ^ 26 ≤ upper) × (upper ≤ 2 ^ 27) × (rest ≤ 2 * upper) ⌝ }
+    ensures { λ r. ⌜ (r .root * r .root + r .rest ≡ (upper * upper + rest) * 2 ^ 54) × (r .rest ≤ 2 * r .root) ⌝ }
+{
+    let lower = rest * 0x400_0000 / upper;
+    let left = rest * 0x400_0000 % upper * 0x1000_0000;
+    let root = upper * 0x800_0000 + lower;
+    let square = lower * lower;
+    if square <= left {
+        return Digits {
+            root,
+            rest: left - square,
+        };
+    }
+    Digits {
+        root: root - 1,
+        rest: left + (root * 2 - 1) - square,
+    }
+}
+
+// The whole root of n * 2^54, if `upper` is that of n, by one division.
+fn root_from(n: u64, upper: u64) -> Digits
+    requires { ⌜ (n < 2 ^ 54) × (upper ≤ 2 ^ 27) ⌝ }
+    ensures { λ r. ⌜ (r .root * r .root + r .rest ≡ n * 2 ^ 54) × (r .rest ≤ 2 * r .root) ⌝ }
+{
+    let square = upper * upper;
+    if upper < 0x400_0000 {
+        return digit_by_digit(n);
+    }
+    if n < square {
+        return digit_by_digit(n);
+    }
+    if upper * 2 < n - square {
+        return digit_by_digit(n);
+    }
+    lower_digits(upper, n - square)
+}
+
+// The whole root of n * 2^54, and what is left.
+fn root_digits(n: u64) -> Digits
+    requires { ⌜ n < 2 ^ 54 ⌝ }
+    ensures { λ r. ⌜ (r .root * r .root + r .rest ≡ n * 2 ^ 54) × (r .rest ≤ 2 * r .root) ⌝ }
+{
+    let upper = root_estimate(n);
+    if 0x800_0000 < upper {
+        return digit_by_digit(n);
+    }
+    if n < upper * upper {
+        return root_from(n, upper - 1);
+    }
+    root_from(n, upper)
 }
 
 // The significand at its full 53 digits, and the exponent, of a positive finite value. A subnormal
@@ -110,137 +196,12 @@ pub fn sqrt(x: f64) -> f64
     f64::from_bits(root_pattern(f64::to_bits(x)))
 }
 
-// (2k-1)^2, for k from 1 to 48
-const NUMERATORS: [u16; 48] = [
-    1,
-    9,
-    25,
-    49,
-    81,
-    121,
-    169,
-    225,
-    289,
-    361,
-    441,
-    529,
-    625,
-    729,
-    841,
-    961,
-    1089,
-    1225,
-    1369,
-    1521,
-    1681,
-    1849,
-    2025,
-    2209,
-    2401,
-    2601,
-    2809,
-    3025,
-    3249,
-    3481,
-    3721,
-    3969,
-    4225,
-    4489,
-    4761,
-    5041,
-    5329,
-    5625,
-    5929,
-    6241,
-    6561,
-    6889,
-    7225,
-    7569,
-    7921,
-    8281,
-    8649,
-    9025,
-];
-
-// 2k(2k+1), for k from 1 to 48
-const DENOMINATORS: [u16; 48] = [
-    6,
-    20,
-    42,
-    72,
-    110,
-    156,
-    210,
-    272,
-    342,
-    420,
-    506,
-    600,
-    702,
-    812,
-    930,
-    1056,
-    1190,
-    1332,
-    1482,
-    1640,
-    1806,
-    1980,
-    2162,
-    2352,
-    2550,
-    2756,
-    2970,
-    3192,
-    3422,
-    3660,
-    3906,
-    4160,
-    4422,
-    4692,
-    4970,
-    5256,
-    5550,
-    5852,
-    6162,
-    6480,
-    6806,
-    7140,
-    7482,
-    7832,
-    8190,
-    8556,
-    8930,
-    9312,
-];
-
-fn numerator(k: usize) -> f64
-    requires { ⌜ (1 ≤ k) × (k ≤ 48) ⌝ }
-    ensures { λ r. ⌜ r ≡ whole (numerator k) ⌝ }
-{
-    let i = k - 1;
-    NUMERATORS[i] as f64
-}
-
-fn denominator(k: usize) -> f64
-    requires { ⌜ (1 ≤ k) × (k ≤ 48) ⌝ }
-    ensures { λ r. ⌜ r ≡ whole (denominator k) ⌝ }
-{
-    let i = k - 1;
-    DENOMINATORS[i] as f64
-}
-
 pub fn acos(d: f64) -> f64
     ensures { λ r. ⌜ r ≡ acos d ⌝ }
 {
-    let z = sqrt((1.0 - d) / 2.0);
-    let mut h = 1.0f64;
-    let mut k = 48usize;
-    while 0 < k {
-        h = 1.0 + z * z * (numerator(k) / denominator(k)) * h;
-        k = k - 1;
-    }
-    2.0 * (z * h)
+    let near = (1.0 - d) / 2.0;
+    let z = sqrt(near);
+    2.0 * (z * acos_sum(z, near))
 }
 
 pub fn sin(a: f64) -> f64

@@ -1,69 +1,47 @@
-use mathlib.Core.Path.{_≡_, refl, sym, ap, _∙_}
-use Prim.Native.Nat.{ℕ, _+_, _*_}
+use native.Mathlib.Nat.{mul-le-mul}
 use native.Mathlib.Omega.{arith}
-use native.Mathlib.Nat.{mul-one, zero-add}
-use Rattle.geometry.proofs.RootDigits.{Turn, digit-one, digit-zero, last-bit}
+use borrow.Author.Needs.{needs}
+use Rattle.geometry.proofs.LowerDigits.{not-zero}
 use Rattle.geometry.proofs.libm.root_digits.Statement.{statement}
 use Rattle.geometry.proofs.libm.root_digits.Tie as tie
 
-abbrev Inv-loop : tie.InvT-loop
-Inv-loop n root₀ rest₀ bit₀ root rest bit = Turn n root rest bit
+root-estimate-requires : tie.Need-root-estimate-requires
+root-estimate-requires c κs = search needs
 
-abbrev μ-loop : tie.MeasureT-loop
-μ-loop n root₀ rest₀ bit₀ root rest bit = bit
+digit-by-digit-requires : tie.Need-digit-by-digit-requires
+digit-by-digit-requires c κs = search needs
 
-loop-holds : tie.Need-loop-holds Inv-loop μ-loop
-loop-holds c = ((54, refl), zero-add _, omega arith, omega arith)
+returns : tie.Need-returns
+returns c = search needs
 
-mul-rest : tie.Need-mul-rest Inv-loop μ-loop
-mul-rest c = omega arith
+mul-if2 : tie.Need-mul-if2
+mul-if2 c = let h = mul-le-mul (c .if1 .left) (c .if1 .left) in omega arith
 
-mul-trial : tie.Need-mul-trial Inv-loop μ-loop
-mul-trial c = omega arith
+sub-root-from : tie.Need-sub-root-from
+sub-root-from c = not-zero _ _ (c .if2 .taken)
 
-add-trial : tie.Need-add-trial Inv-loop μ-loop
-add-trial c = omega arith
+root-from-requires : tie.Need-root-from-requires
+root-from-requires c κs = search needs
 
-add-root : tie.Need-add-root Inv-loop μ-loop
-add-root c = omega arith
+returns-2 : tie.Need-returns-2
+returns-2 c = search needs
 
-loop-less : tie.Need-loop-less Inv-loop μ-loop
-loop-less c = omega arith
+root-from-requires-2 : tie.Need-root-from-requires-2
+root-from-requires-2 c κs = search needs
 
-loop-again : tie.Need-loop-again Inv-loop μ-loop
-loop-again c =
-    let at = c .before .before in
-    digit-one (at .before .args .n) (at .loop .root) (at .loop .rest) (at .loop .bit) (at .loop .inv) (c .before .loop-test .taken) (c .if1 .taken)
-
-loop-less-2 : tie.Need-loop-less-2 Inv-loop μ-loop
-loop-less-2 c = omega arith
-
-loop-again-2 : tie.Need-loop-again-2 Inv-loop μ-loop
-loop-again-2 c =
-    let at = c .before .before in
-    digit-zero (at .before .args .n) (at .loop .root) (at .loop .rest) (at .loop .bit) (at .loop .inv) (c .before .loop-test .taken) (c .if1 .left)
-
-returns : tie.Need-returns Inv-loop μ-loop
-returns c =
-    let i = c .before .loop .inv in
-    let root = c .before .loop .root in
-    let rest = c .before .loop .rest in
-    let one : c .before .loop .bit ≡ 1 = last-bit (c .before .loop .bit) (i .0) (c .loop-test .left) in
-    (ap (λ (x : ℕ). root * root + x) (sym (mul-one rest) ∙ ap (λ (b : ℕ). rest * b) (sym one)) ∙ i .1, omega arith)
+returns-3 : tie.Need-returns-3
+returns-3 c = search needs
 
 pub root-digits-spec : {M : Type 1} → statement M
 root-digits-spec =
     tie.close
     (tie.spec
-    Inv-loop
-    μ-loop
-    loop-holds
-    mul-rest
-    mul-trial
-    add-trial
-    add-root
-    loop-less
-    loop-again
-    loop-less-2
-    loop-again-2
-    returns)
+    root-estimate-requires
+    digit-by-digit-requires
+    returns
+    mul-if2
+    sub-root-from
+    root-from-requires
+    returns-2
+    root-from-requires-2
+    returns-3)

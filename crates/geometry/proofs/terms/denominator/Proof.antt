@@ -1,10 +1,10 @@
 use mathlib.Core.Path.{ap}
 use borrow.Author.Needs.{needs}
 use Rattle.time.specs.Float.{whole}
-use Rattle.geometry.specs.Libm.{numerator}
+use Rattle.geometry.specs.Libm.{denominator}
 use Rattle.geometry.proofs.Table.{table, entry}
-use Rattle.geometry.proofs.libm.numerator.Statement.{statement}
-use Rattle.geometry.proofs.libm.numerator.Tie as tie
+use Rattle.geometry.proofs.terms.denominator.Statement.{statement}
+use Rattle.geometry.proofs.terms.denominator.Tie as tie
 
 sub-i : tie.Need-sub-i
 sub-i c = search needs
@@ -20,8 +20,8 @@ int-to-float-result c = search needs
 
 returns : tie.Need-returns
 unfolding table
-returns c = ap whole (entry numerator 48 (c .before .args .k) (search needs) (search needs))
+returns c = ap whole (entry denominator 48 (c .before .args .k) (search needs) (search needs))
 
-pub numerator-spec : {M : Type 1} → statement M
-numerator-spec =
+pub denominator-spec : {M : Type 1} → statement M
+denominator-spec =
     tie.close (tie.spec sub-i mul-result array-read-result int-to-float-result returns)
