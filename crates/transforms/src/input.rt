@@ -1,7 +1,7 @@
 // The lines of standard input, each answered at its end.
-use super::answers;
 use super::memory;
 use super::memory::Reply;
+use super::output;
 ghost use Prim.Native.Nat.{_<_};
 
 // How many bytes of the line are held, whether the line is too long, what the answers came to, and whether there is
@@ -35,14 +35,14 @@ fn answered(
         return before;
     }
     let lent = before.lent;
-    let to = answers::spare(out, before.at);
+    let to = output::spare(out, before.at);
     if over {
-        let next = answers::malformed(out, to);
-        let at = answers::line_end(out, next);
+        let next = output::malformed(out, to);
+        let at = output::line_end(out, next);
         return Reply { at, lent };
     }
     let reply = memory::answer(line, head, instants, poses, out, to, lent);
-    let end = answers::line_end(out, reply.at);
+    let end = output::line_end(out, reply.at);
     let left = reply.lent;
     Reply {
         at: end,
@@ -191,5 +191,5 @@ pub(crate) fn run(
     let st = read_all(line, head, instants, poses, out);
     let before = st.reply;
     let reply = take_line(line, st.used, st.over, head, instants, poses, out, before);
-    answers::flush(out, reply.at);
+    output::flush(out, reply.at);
 }

@@ -1,8 +1,8 @@
 // Speaks the text protocol on standard input and output: a line for an operation, a line for its answer.
-mod answers;
 mod input;
 mod memory;
 mod operands;
+mod output;
 mod poses;
 mod store;
 

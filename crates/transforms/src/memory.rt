@@ -1,8 +1,8 @@
 // Lending parts of the memory: which part is lent, and the operations that change that.
-use super::answers;
 use super::operands;
 use super::operands::Age;
 use super::operands::Three;
+use super::output;
 use super::store;
 use buffer::max_age::MaxAge;
 use text::Keyword;
@@ -63,7 +63,7 @@ fn lent_for(rows: u64, places: u64, before: Lent) -> Lent {
 }
 
 fn refused(out: &mut [u8], to: usize, lent: Lent) -> Reply {
-    let at = answers::malformed(out, to);
+    let at = output::malformed(out, to);
     Reply { at, lent }
 }
 
@@ -100,7 +100,7 @@ fn open_in(
         places,
         age,
     );
-    let at = answers::of_registry(out, to, answer);
+    let at = output::of_tree(out, to, answer);
     Reply { at, lent }
 }
 
@@ -150,7 +150,7 @@ fn lend(
     if (poses.len() as u64) < p {
         return refused(out, to, lent);
     }
-    let next = answers::done(out, to);
+    let next = output::done(out, to);
     Reply {
         at: next,
         lent: Lent {
@@ -175,13 +175,13 @@ fn answer_lent(
     let i = lent.instants;
     let p = lent.poses;
     if head.len() < h {
-        return answers::malformed(out, to);
+        return output::malformed(out, to);
     }
     if instants.len() < i {
-        return answers::malformed(out, to);
+        return output::malformed(out, to);
     }
     if poses.len() < p {
-        return answers::malformed(out, to);
+        return output::malformed(out, to);
     }
     store::answer(
         line,

@@ -1,9 +1,9 @@
 // The operations on the store in the three slices that are lent.
-use super::answers;
 use super::operands;
 use super::operands::Frames;
 use super::operands::Pose;
 use super::operands::Stamped;
+use super::output;
 use super::poses;
 use text::Float;
 use text::Frame;
@@ -21,16 +21,16 @@ fn add(
     to: usize,
 ) -> usize {
     let Frames::Value(child, parent, second) = operands::read_frames(line, at) else {
-        return answers::malformed(out, to);
+        return output::malformed(out, to);
     };
     let Stamped::Value(stamp, third) = operands::read_stamp(line, second) else {
-        return answers::malformed(out, to);
+        return output::malformed(out, to);
     };
     let Pose::Value(pose, _) = operands::last_pose(line, third) else {
-        return answers::malformed(out, to);
+        return output::malformed(out, to);
     };
     let answer = registry::add::add_transform(head, instants, poses, child, parent, stamp, pose);
-    answers::of_registry(out, to, answer)
+    output::of_tree(out, to, answer)
 }
 
 // `wipe CHILD INSTANT`
@@ -44,13 +44,13 @@ fn wipe(
     to: usize,
 ) -> usize {
     let Frame::Value(child, next) = text::read_frame(line, at) else {
-        return answers::malformed(out, to);
+        return output::malformed(out, to);
     };
     let Number::Value(t, _) = operands::last_number(line, next) else {
-        return answers::malformed(out, to);
+        return output::malformed(out, to);
     };
     let answer = registry::remove_before::remove_before(head, instants, poses, child, t);
-    answers::of_registry(out, to, answer)
+    output::of_tree(out, to, answer)
 }
 
 // `lookup TARGET SOURCE INSTANT`
@@ -64,13 +64,13 @@ fn lookup(
     to: usize,
 ) -> usize {
     let Frames::Value(target, source, next) = operands::read_frames(line, at) else {
-        return answers::malformed(out, to);
+        return output::malformed(out, to);
     };
     let Number::Value(t, _) = operands::last_number(line, next) else {
-        return answers::malformed(out, to);
+        return output::malformed(out, to);
     };
     let answer = registry::get_transform::get_transform(head, instants, poses, target, source, t);
-    answers::of_registry(out, to, answer)
+    output::of_tree(out, to, answer)
 }
 
 // `common TARGET SOURCE`
@@ -84,10 +84,10 @@ fn common(
     to: usize,
 ) -> usize {
     let Frames::Value(target, source, next) = operands::read_frames(line, at) else {
-        return answers::malformed(out, to);
+        return output::malformed(out, to);
     };
     if !text::ended(line, next) {
-        return answers::malformed(out, to);
+        return output::malformed(out, to);
     }
     let answer = registry::latest_common_time::latest_common_time(
         head,
@@ -96,7 +96,7 @@ fn common(
         target,
         source,
     );
-    answers::of_registry(out, to, answer)
+    output::of_tree(out, to, answer)
 }
 
 // A name and the words of a slice.
@@ -104,8 +104,8 @@ fn all_words(name: &[u8], words: &[u64], out: &mut [u8], at: usize) -> usize {
     let mut to = text::write_bytes(out, at, name);
     let mut i = 0;
     while i < words.len() {
-        let free = answers::spare(out, to);
-        to = answers::number_word(out, free, words[i]);
+        let free = output::spare(out, to);
+        to = answers::write_number_word(out, free, words[i]);
         i += 1;
     }
     to
@@ -116,8 +116,8 @@ fn all_floats(name: &[u8], floats: &[f64], out: &mut [u8], at: usize) -> usize {
     let mut to = text::write_bytes(out, at, name);
     let mut i = 0;
     while i < floats.len() {
-        let free = answers::spare(out, to);
-        to = answers::float_word(out, free, floats[i]);
+        let free = output::spare(out, to);
+        to = answers::write_float_word(out, free, floats[i]);
         i += 1;
     }
     to
@@ -134,43 +134,43 @@ fn words(
     to: usize,
 ) -> usize {
     if !text::ended(line, at) {
-        return answers::malformed(out, to);
+        return output::malformed(out, to);
     }
     let first = all_words(b"head", head, out, to);
-    let second = answers::line_end(out, first);
+    let second = output::line_end(out, first);
     let third = all_words(b"instants", instants, out, second);
-    let fourth = answers::line_end(out, third);
+    let fourth = output::line_end(out, third);
     all_floats(b"poses", poses, out, fourth)
 }
 
 // `I N`: writes one word.
 fn set_word(line: &[u8], at: usize, words: &mut [u64], out: &mut [u8], to: usize) -> usize {
     let Number::Value(place, next) = text::read_number(line, at) else {
-        return answers::malformed(out, to);
+        return output::malformed(out, to);
     };
     let Number::Value(word, _) = operands::last_number(line, next) else {
-        return answers::malformed(out, to);
+        return output::malformed(out, to);
     };
     if words.len() as u64 <= place {
-        return answers::malformed(out, to);
+        return output::malformed(out, to);
     }
     words[place as usize] = word;
-    answers::done(out, to)
+    output::done(out, to)
 }
 
 // `I F`: writes one float.
 fn set_float(line: &[u8], at: usize, floats: &mut [f64], out: &mut [u8], to: usize) -> usize {
     let Number::Value(place, next) = text::read_number(line, at) else {
-        return answers::malformed(out, to);
+        return output::malformed(out, to);
     };
     let Float::Value(float, _) = operands::last_float(line, next) else {
-        return answers::malformed(out, to);
+        return output::malformed(out, to);
     };
     if floats.len() as u64 <= place {
-        return answers::malformed(out, to);
+        return output::malformed(out, to);
     }
     floats[place as usize] = float;
-    answers::done(out, to)
+    output::done(out, to)
 }
 
 // `set head I N`, `set instants I N`, `set poses I F`
@@ -192,7 +192,7 @@ fn set(
     if let Keyword::Next(next) = text::read_keyword(line, at, b"poses") {
         return set_float(line, next, poses, out, to);
     }
-    answers::malformed(out, to)
+    output::malformed(out, to)
 }
 
 // The answer to a line, with these slices lent.

@@ -21,14 +21,14 @@ loop-holds c = search needs
 spare-requires : tie.Need-spare-requires Inv-loop μ-loop
 spare-requires c κs = search needs
 
-mul-float-word : tie.Need-mul-float-word Inv-loop μ-loop
-mul-float-word c = search needs
+mul-write-float-word : tie.Need-mul-write-float-word Inv-loop μ-loop
+mul-write-float-word c = search needs
 
-shared-slice-read-float-word : tie.Need-shared-slice-read-float-word Inv-loop μ-loop
-shared-slice-read-float-word c = search needs
+shared-slice-read-write-float-word : tie.Need-shared-slice-read-write-float-word Inv-loop μ-loop
+shared-slice-read-write-float-word c = search needs
 
-float-word-requires : tie.Need-float-word-requires Inv-loop μ-loop
-float-word-requires c κs = search needs
+write-float-word-requires : tie.Need-write-float-word-requires Inv-loop μ-loop
+write-float-word-requires c κs = search needs
 
 add-i : tie.Need-add-i Inv-loop μ-loop
 add-i c = search needs
@@ -54,9 +54,9 @@ all-floats-spec =
     write-bytes-requires
     loop-holds
     spare-requires
-    mul-float-word
-    shared-slice-read-float-word
-    float-word-requires
+    mul-write-float-word
+    shared-slice-read-write-float-word
+    write-float-word-requires
     add-i
     loop-less
     loop-again

@@ -21,14 +21,14 @@ loop-holds c = search needs
 spare-requires : tie.Need-spare-requires Inv-loop μ-loop
 spare-requires c κs = search needs
 
-mul-number-word : tie.Need-mul-number-word Inv-loop μ-loop
-mul-number-word c = search needs
+mul-write-number-word : tie.Need-mul-write-number-word Inv-loop μ-loop
+mul-write-number-word c = search needs
 
-shared-slice-read-number-word : tie.Need-shared-slice-read-number-word Inv-loop μ-loop
-shared-slice-read-number-word c = search needs
+shared-slice-read-write-number-word : tie.Need-shared-slice-read-write-number-word Inv-loop μ-loop
+shared-slice-read-write-number-word c = search needs
 
-number-word-requires : tie.Need-number-word-requires Inv-loop μ-loop
-number-word-requires c κs = search needs
+write-number-word-requires : tie.Need-write-number-word-requires Inv-loop μ-loop
+write-number-word-requires c κs = search needs
 
 add-i : tie.Need-add-i Inv-loop μ-loop
 add-i c = search needs
@@ -54,9 +54,9 @@ all-words-spec =
     write-bytes-requires
     loop-holds
     spare-requires
-    mul-number-word
-    shared-slice-read-number-word
-    number-word-requires
+    mul-write-number-word
+    shared-slice-read-write-number-word
+    write-number-word-requires
     add-i
     loop-less
     loop-again

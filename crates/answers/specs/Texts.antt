@@ -1,0 +1,68 @@
+-- The text of a reply, as texts that are written one behind the other.
+use Prim.Native.Nat.{ℕ}
+use mathlib.Core.Option.{Option, none, some}
+use mathlib.Core.List.{List, [], _∷_, _++_}
+use lib.Ieee.{Float}
+use Rattle.time.specs.Reply.{Reply, Carried, answer, refusal, nothing, norm, frame, hop}
+use Rattle.geometry.specs.declared.vector3.Vector3.{Vector3}
+use Rattle.geometry.specs.declared.quaternion.Quaternion.{Quaternion}
+use Rattle.geometry.specs.declared.isometry.Isometry.{Isometry}
+use Rattle.tree.specs.Answers.{Value}
+use Rattle.tree.specs.Answers as value
+use Rattle.text.specs.Writing.{written, numberText, floatText}
+
+-- Where the texts end, and the buffer with them in it. A text without room is left out.
+unfoldable pub writtenAll : List ℕ → ℕ → List (List ℕ) → ℕ × List ℕ
+writtenAll out at [] = (at, out)
+writtenAll out at (t ∷ texts) = writtenAll (written out at t .1) (written out at t .0) texts
+
+-- the word `float`
+abbrev pub float : List ℕ
+float = 102 ∷ 108 ∷ 111 ∷ 97 ∷ 116 ∷ []
+
+-- a space and a number; a space and a float
+abbrev pub numberWord : ℕ → List (List ℕ)
+numberWord n = (32 ∷ []) ∷ numberText n ∷ []
+
+abbrev pub floatWord : Float → List (List ℕ)
+floatWord x = (32 ∷ []) ∷ floatText x ∷ []
+
+abbrev pub translationTexts : Vector3 → List (List ℕ)
+translationTexts t = floatWord (t .x) ++ (floatWord (t .y) ++ floatWord (t .z))
+
+abbrev pub rotationTexts : Quaternion → List (List ℕ)
+rotationTexts q = floatWord (q .w) ++ (floatWord (q .x) ++ (floatWord (q .y) ++ floatWord (q .z)))
+
+-- `pose` and seven floats
+abbrev pub poseTexts : Isometry → List (List ℕ)
+poseTexts p = (112 ∷ 111 ∷ 115 ∷ 101 ∷ []) ∷ (translationTexts (p .translation) ++ rotationTexts (p .rotation))
+
+-- the child and the range, or ` none`
+abbrev pub hopTexts : ℕ → Option (ℕ × ℕ) → List (List ℕ)
+hopTexts child none = numberWord child ++ ((32 ∷ 110 ∷ 111 ∷ 110 ∷ 101 ∷ []) ∷ [])
+hopTexts child (some r) = numberWord child ++ (numberWord (r .0) ++ numberWord (r .1))
+
+abbrev pub carriedTexts : Carried → List (List ℕ)
+carriedTexts nothing = []
+carriedTexts (norm x) = floatWord x
+carriedTexts (frame f) = numberWord f
+carriedTexts (hop child range) = hopTexts child range
+
+-- `no`, the number, and what it carries
+abbrev pub refusalTexts : ℕ → Carried → List (List ℕ)
+refusalTexts k c = (110 ∷ 111 ∷ []) ∷ (numberWord k ++ carriedTexts c)
+
+-- `at` and the instant
+abbrev pub instantTexts : ℕ → List (List ℕ)
+instantTexts t = (97 ∷ 116 ∷ []) ∷ numberWord t
+
+-- `done`, a pose, `static` or an instant
+abbrev pub valueTexts : Value → List (List ℕ)
+valueTexts value.done = (100 ∷ 111 ∷ 110 ∷ 101 ∷ []) ∷ []
+valueTexts (value.pose p) = poseTexts p
+valueTexts value.static = (115 ∷ 116 ∷ 97 ∷ 116 ∷ 105 ∷ 99 ∷ []) ∷ []
+valueTexts (value.at t) = instantTexts t
+
+abbrev pub replyTexts : Reply Value → List (List ℕ)
+replyTexts (answer v) = valueTexts v
+replyTexts (refusal k c) = refusalTexts k c
