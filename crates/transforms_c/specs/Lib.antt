@@ -1,3 +1,4 @@
 pub mod Flat
 pub mod Flags
 pub mod Lengths
+pub mod Laws
