@@ -17,7 +17,7 @@ use Rattle.time.specs.Reply.{Reply, answer, refusal, nothing, refuse}
 use Rattle.geometry.specs.declared.isometry.Isometry.{Isometry}
 use Rattle.buffer.specs.declared.kind.Kind.{Kind}
 use Rattle.buffer.specs.Map.{all, get, put}
-use Rattle.buffer.specs.Words.{inserted}
+use Rattle.slices.specs.Words.{inserted}
 use Rattle.buffer.specs.Samples.{insert}
 use Rattle.buffer.specs.Row.{FloatsFit, instantWords, poseWords}
 use Rattle.buffer.proofs.Maps.{Rising, rising-is, rising-put, put-again, length-put-new}

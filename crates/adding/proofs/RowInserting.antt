@@ -11,8 +11,8 @@ use lib.Ieee.{Float}
 use borrow.Rule.Slice.PartMut.{midOf, putMid}
 use Rattle.time.specs.Float.{zero64}
 use Rattle.buffer.specs.declared.kind.Kind.{Kind}
-use Rattle.buffer.specs.Words.{movedUp, replaced, inserted}
-use Rattle.buffer.proofs.Moves.{length-up, put-replaced, up-put}
+use Rattle.slices.specs.Words.{movedUp, replaced, inserted}
+use Rattle.slices.proofs.Moves.{length-up, put-replaced, up-put}
 use Rattle.tree.specs.Store.{Store, kindWord, placesIn, usedIn}
 use Rattle.tree.specs.Calls.{storeOf}
 use Rattle.adding.specs.NewRow.{emptyRow, rowInserted, withRow}

@@ -3,7 +3,7 @@ use Prim.Native.Nat.{ℕ, _+_, _*_, _≤_}
 use mathlib.Core.List.{List, []}
 use lib.ListN.{length, set}
 use Rattle.buffer.specs.declared.kind.Kind.{Kind}
-use Rattle.buffer.specs.Words.{inserted}
+use Rattle.slices.specs.Words.{inserted}
 use Rattle.buffer.specs.Row.{instantWords, poseWords}
 use Rattle.tree.specs.Tree.{Edge}
 use Rattle.tree.specs.Store.{Store, rowWords, placesIn, usedIn}

@@ -1,12 +1,12 @@
 // Room for a new child's row.
 use buffer::kind::Kind;
-use buffer::words;
+use slices::words;
 use storage::head;
 ghost use mathlib.Core.Path.{_≡_};
 ghost use Prim.Native.Nat.{_+_, _*_, _≤_};
 ghost use lib.ListN.{length, replicate};
 ghost use Rattle.time.specs.Float.{zero64};
-ghost use Rattle.buffer.specs.Words.{inserted};
+ghost use Rattle.slices.specs.Words.{inserted};
 ghost use Rattle.tree.specs.Store.{kindWord};
 ghost use Rattle.tree.specs.Calls.{storeOf};
 ghost use Rattle.adding.specs.NewRow.{RowRoom, emptyRow, rowInserted, withRow};

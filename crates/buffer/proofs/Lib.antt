@@ -7,13 +7,9 @@ pub mod ServedLaws
 pub mod Floats
 pub mod RowBack
 pub mod SoundRows
-pub mod Moves
 pub mod Strides
 pub mod RowWords
 pub mod Places
 pub mod Inserting
 pub mod Serving
-pub mod Parts
-pub mod Ascending
-pub mod RowSoundLoops
 pub mod BufferLaws

@@ -5,7 +5,5 @@ pub mod insert;
 pub mod kind;
 pub mod max_age;
 mod place;
-mod pose;
+pub mod pose;
 pub mod remove_before;
-pub mod sound;
-pub mod words;

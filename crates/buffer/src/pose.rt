@@ -1,12 +1,12 @@
 // Poses at a stride of seven floats.
-use super::words;
 use geometry::isometry::Isometry;
 use geometry::quaternion::Quaternion;
 use geometry::vector3::Vector3;
+use slices::words;
 ghost use mathlib.Core.Path.{_≡_};
 ghost use Prim.Native.Nat.{_+_, _*_, _≤_};
 ghost use lib.ListN.{length, drop};
-ghost use Rattle.buffer.specs.Words.{replaced, inserted};
+ghost use Rattle.slices.specs.Words.{replaced, inserted};
 ghost use Rattle.buffer.specs.Row.{floats, poseOf};
 
 pub fn read_pose(poses: &[f64], place: usize) -> Isometry
@@ -44,7 +44,7 @@ fn write_floats(part: &mut [f64], pose: Isometry)
     part[6] = pose.rotation.z;
 }
 
-pub fn write_pose(poses: &mut [f64], place: usize, pose: Isometry)
+pub(crate) fn write_pose(poses: &mut [f64], place: usize, pose: Isometry)
     requires { ⌜ 7 * place + 7 ≤ length (now poses) ⌝ }
     ensures { λ _. ⌜ now (poses .exit) ≡ replaced (7 * place) (floats pose) (now (poses .entry)) ⌝ }
 {
@@ -53,7 +53,7 @@ pub fn write_pose(poses: &mut [f64], place: usize, pose: Isometry)
 }
 
 // Puts a pose in at `place`, before the others of the first `count`.
-pub fn insert_pose(poses: &mut [f64], place: usize, count: usize, pose: Isometry)
+pub(crate) fn insert_pose(poses: &mut [f64], place: usize, count: usize, pose: Isometry)
     requires { ⌜ (place ≤ count) × (7 * count + 7 ≤ length (now poses)) ⌝ }
     ensures { λ _. ⌜ now (poses .exit) ≡ inserted (7 * place) (7 * count) (floats pose) (now (poses .entry)) ⌝ }
 {

@@ -1,6 +1,6 @@
 // Opening a store.
 use buffer::max_age::MaxAge;
-use buffer::words;
+use slices::words;
 use storage::head;
 use storage::sizes;
 use tree::answer::Answer;

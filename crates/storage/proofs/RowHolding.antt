@@ -8,12 +8,12 @@ use lib.ListN.{length, set, take, drop}
 use borrow.Rule.Slice.PartMut.{putMid}
 use Rattle.time.specs.Reply.{answer}
 use Rattle.buffer.specs.Map.{put}
-use Rattle.buffer.specs.Words.{replaced}
+use Rattle.slices.specs.Words.{replaced}
 use Rattle.buffer.specs.Samples.{Samples}
 use Rattle.buffer.specs.Row.{RowOutcome, Row, instantWords, poseWords}
 use Rattle.buffer.specs.Row as row
 use Rattle.buffer.proofs.Maps.{Rising}
-use Rattle.buffer.proofs.Moves.{put-replaced}
+use Rattle.slices.proofs.Moves.{put-replaced}
 use Rattle.buffer.proofs.RowBack.{length-instantWords, length-poseWords}
 use Rattle.tree.specs.Tree.{Edge}
 use Rattle.tree.specs.Store.{Store, encode, placesIn, usedIn, rowWord, rowInstants, rowPoses, rowAt, treeOf, limitsOf}

@@ -3,7 +3,7 @@ use super::head;
 use super::head_sound;
 use super::sizes;
 use super::unused;
-use buffer::sound;
+use soundness::sound;
 ghost use mathlib.Core.Path.{_≡_};
 ghost use Rattle.tree.specs.Sound.{rowsSound};
 ghost use Rattle.tree.specs.Calls.{storeOf};

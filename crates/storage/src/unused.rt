@@ -1,6 +1,6 @@
 // The rule that every unused word is 0, positive zero for floats: the unused rows.
 use super::head;
-use buffer::sound;
+use soundness::sound;
 ghost use mathlib.Core.Path.{_≡_};
 ghost use Rattle.tree.specs.Sound.{unusedRowsZero};
 ghost use Rattle.tree.specs.Calls.{storeOf};

@@ -13,7 +13,7 @@ use lib.Ieee.{Float}
 use borrow.Author.Tests.{le-leb, leb-true}
 use Rattle.time.specs.Float.{zero64}
 use Rattle.buffer.specs.Map.{put}
-use Rattle.buffer.specs.Words.{replaced, inserted}
+use Rattle.slices.specs.Words.{replaced, inserted}
 use Rattle.buffer.specs.Samples.{Samples}
 use Rattle.buffer.specs.Row.{padded, concatMap, instantWords, poseWords}
 use Rattle.buffer.proofs.Maps.{Rising}

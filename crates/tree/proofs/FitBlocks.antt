@@ -7,7 +7,7 @@ use native.Mathlib.Nat.{le-of-eq}
 use lib.ListN.{length, set, take, drop}
 use lib.Seq.{length-take-le, take-all}
 use Rattle.buffer.specs.Map.{all}
-use Rattle.buffer.specs.Words.{replaced, inserted}
+use Rattle.slices.specs.Words.{replaced, inserted}
 use Rattle.buffer.specs.Row.{concatMap, padded}
 use Rattle.buffer.proofs.Cases.{and-both, and-left, and-right}
 use Rattle.buffer.proofs.Strides.{insert-block, replace-block}

@@ -1,0 +1,2 @@
+// Slices of words and of floats.
+pub mod words;

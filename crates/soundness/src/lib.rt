@@ -1,0 +1,2 @@
+// The rules of one row's words.
+pub mod sound;
