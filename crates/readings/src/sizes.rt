@@ -2,6 +2,14 @@
 use super::report;
 use buffer::max_age::MaxAge;
 use registry::open::open;
+ghost use Prim.Native.Nat.{_≤_};
+
+// A number of words that a slice has.
+fn least(n: usize, len: usize) -> usize
+    ensures { λ r. ⌜ r ≤ len ⌝ }
+{
+    if n < len { n } else { len }
+}
 
 // Opens a store in the first words of each slice.
 fn open_in(
@@ -16,19 +24,13 @@ fn open_in(
     expected: &[u8],
 ) {
     report::asked(b"open", rows, samples);
-    if head.len() < h {
-        return report::compare(expected, b"too little memory");
-    }
-    if instants.len() < i {
-        return report::compare(expected, b"too little memory");
-    }
-    if poses.len() < p {
-        return report::compare(expected, b"too little memory");
-    }
+    let head_len = least(h, head.len());
+    let instants_len = least(i, instants.len());
+    let poses_len = least(p, poses.len());
     let answer = open(
-        &mut head[0..h],
-        &mut instants[0..i],
-        &mut poses[0..p],
+        &mut head[0..head_len],
+        &mut instants[0..instants_len],
+        &mut poses[0..poses_len],
         rows,
         samples,
         MaxAge::Unlimited,

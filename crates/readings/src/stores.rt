@@ -36,8 +36,7 @@ fn newest(h: &[u64], i: &[u64], p: &[f64]) {
 }
 
 // 10 then 5 hold both.
-fn both_held(h: &mut [u64], i: &mut [u64], p: &mut [f64]) {
-    aged(h, i, p, 5, 5.0);
+fn both_held(h: &[u64], i: &[u64], p: &[f64]) {
     newest(h, i, p);
     store::lookup(
         h,
@@ -51,8 +50,7 @@ fn both_held(h: &mut [u64], i: &mut [u64], p: &mut [f64]) {
 }
 
 // 10 then 4 hold only 10.
-fn newest_held(h: &mut [u64], i: &mut [u64], p: &mut [f64]) {
-    aged(h, i, p, 4, 4.0);
+fn newest_held(h: &[u64], i: &[u64], p: &[f64]) {
     newest(h, i, p);
     store::lookup(h, i, p, 2, 4, b"no 11 2 10 10");
 }
@@ -61,8 +59,10 @@ pub(crate) fn ages() {
     let mut head = [0u64; 9];
     let mut instants = [0u64; 2];
     let mut poses = [0.0f64; 14];
-    both_held(&mut head, &mut instants, &mut poses);
-    newest_held(&mut head, &mut instants, &mut poses);
+    aged(&mut head, &mut instants, &mut poses, 5, 5.0);
+    both_held(&head, &instants, &poses);
+    aged(&mut head, &mut instants, &mut poses, 4, 4.0);
+    newest_held(&head, &instants, &poses);
 }
 
 // Translation x 0 at instant 0 and 4 at 4000000000.
@@ -105,13 +105,11 @@ fn ranges(h: &mut [u64], i: &mut [u64], p: &mut [f64], end: u64) {
     range(h, i, p, 3, 20, 30);
 }
 
-fn meeting(h: &mut [u64], i: &mut [u64], p: &mut [f64]) {
-    ranges(h, i, p, 20);
+fn meeting(h: &[u64], i: &[u64], p: &[f64]) {
     store::common(h, i, p, 2, 3, b"at 20");
 }
 
-fn apart(h: &mut [u64], i: &mut [u64], p: &mut [f64]) {
-    ranges(h, i, p, 19);
+fn apart(h: &[u64], i: &[u64], p: &[f64]) {
     store::common(h, i, p, 2, 3, b"no 12 3 20 30");
     store::common(h, i, p, 3, 2, b"no 12 3 20 30");
 }
@@ -120,8 +118,10 @@ pub(crate) fn common_times() {
     let mut head = [0u64; 13];
     let mut instants = [0u64; 4];
     let mut poses = [0.0f64; 28];
-    meeting(&mut head, &mut instants, &mut poses);
-    apart(&mut head, &mut instants, &mut poses);
+    ranges(&mut head, &mut instants, &mut poses, 20);
+    meeting(&head, &instants, &poses);
+    ranges(&mut head, &mut instants, &mut poses, 19);
+    apart(&head, &instants, &poses);
 }
 
 // Frame 1 under 2, which is under 1, with a NaN.
@@ -147,6 +147,9 @@ fn chained(h: &mut [u64], i: &mut [u64], p: &mut [f64]) {
     store::open(h, i, p, 2, 1);
     store::translated(h, i, p, 2, 1, 1.0, 0.0);
     store::translated(h, i, p, 3, 2, 0.0, 2.0);
+}
+
+fn seen(h: &[u64], i: &[u64], p: &[f64]) {
     store::lookup(
         h,
         i,
@@ -162,4 +165,5 @@ pub(crate) fn chain() {
     let mut instants = [0u64; 2];
     let mut poses = [0.0f64; 14];
     chained(&mut head, &mut instants, &mut poses);
+    seen(&head, &instants, &poses);
 }

@@ -2,7 +2,7 @@
 use super::memory;
 use super::memory::Reply;
 use super::output;
-ghost use Prim.Native.Nat.{_<_};
+ghost use Prim.Native.Nat.{_≤_, _<_};
 
 // How many bytes of the line are held, whether the line is too long, what the answers came to, and whether there is
 // more to read.
@@ -21,6 +21,13 @@ fn passed_over(line: &[u8]) -> bool {
     line[0] == b'#'
 }
 
+// How many bytes of a line are read: none of one that is too long, which is then malformed.
+fn kept(len: usize, over: bool) -> usize
+    ensures { λ r. ⌜ r ≤ len ⌝ }
+{
+    if over { 0 } else { len }
+}
+
 // The answer with its line end.
 fn answered(
     line: &[u8],
@@ -36,18 +43,11 @@ fn answered(
     }
     let lent = before.lent;
     let to = output::spare(out, before.at);
-    if over {
-        let next = output::malformed(out, to);
-        let at = output::line_end(out, next);
-        return Reply { at, lent };
-    }
-    let reply = memory::answer(line, head, instants, poses, out, to, lent);
-    let end = output::line_end(out, reply.at);
+    let n = kept(line.len(), over);
+    let reply = memory::answer(&line[0..n], head, instants, poses, out, to, lent);
+    let at = output::line_end(out, reply.at);
     let left = reply.lent;
-    Reply {
-        at: end,
-        lent: left,
-    }
+    Reply { at, lent: left }
 }
 
 // The same of the first `used` bytes.
@@ -126,6 +126,17 @@ fn feed(
     now
 }
 
+// There is more to read where something came.
+fn going_on(st: State, n: usize) -> State {
+    let reply = st.reply;
+    State {
+        used: st.used,
+        over: st.over,
+        reply,
+        more: n > 0,
+    }
+}
+
 // Reads once and takes what came.
 fn turn(
     line: &mut [u8],
@@ -136,18 +147,9 @@ fn turn(
     st: State,
 ) -> State {
     let mut chunk = io::large_buffer();
-    let got = libc::read(0, &mut chunk);
-    if got <= 0 {
-        let reply = st.reply;
-        return State {
-            used: st.used,
-            over: st.over,
-            reply,
-            more: false,
-        };
-    }
-    let n = io::count(got, &chunk);
-    feed(&chunk[..n], line, head, instants, poses, out, st)
+    let n = io::count(libc::read(0, &mut chunk), &chunk);
+    let next = feed(&chunk[..n], line, head, instants, poses, out, st);
+    going_on(next, n)
 }
 
 // The turns that are left: none where there is no more to read.

@@ -5,8 +5,8 @@ use super::operands::Three;
 use super::output;
 use super::store;
 use buffer::max_age::MaxAge;
-use text::Keyword;
 use text::Number;
+use tree::answer::Answer;
 ghost use Prim.Native.Nat.{_≤_};
 
 // How many words of each slice are lent.
@@ -62,49 +62,77 @@ fn lent_for(rows: u64, places: u64, before: Lent) -> Lent {
     }
 }
 
+// Whether a part is larger than the memory.
+fn beyond(part: Lent, most: Lent) -> bool {
+    (most.head < part.head) | (most.instants < part.instants) | (most.poses < part.poses)
+}
+
+// A number of words that a slice has.
+fn least(n: usize, len: usize) -> usize
+    ensures { λ r. ⌜ r ≤ len ⌝ }
+{
+    if n < len { n } else { len }
+}
+
 fn refused(out: &mut [u8], to: usize, lent: Lent) -> Reply {
     let at = output::malformed(out, to);
     Reply { at, lent }
 }
 
-// Opens a store in the part that its sizes ask for, which is lent from then on.
-fn open_in(
-    head: &mut [u64],
-    instants: &mut [u64],
-    poses: &mut [f64],
+// A store to open: its sizes, its age and the part that they ask for.
+struct Store {
     rows: u64,
     places: u64,
     age: MaxAge,
-    out: &mut [u8],
-    to: usize,
-    before: Lent,
-) -> Reply {
+    lent: Lent,
+}
+
+enum Opening {
+    Value(Store),
+    Malformed,
+}
+
+// `E S none`, `E S AGE`
+fn read_store(line: &[u8], at: usize, before: Lent, most: Lent) -> Opening {
+    let Number::Value(rows, second) = text::read_number(line, at) else {
+        return Opening::Malformed;
+    };
+    let Number::Value(places, third) = text::read_number(line, second) else {
+        return Opening::Malformed;
+    };
+    let Age::Value(age) = operands::last_age(line, third) else {
+        return Opening::Malformed;
+    };
     let lent = lent_for(rows, places, before);
-    let h = lent.head;
-    let i = lent.instants;
-    let p = lent.poses;
-    if head.len() < h {
-        return refused(out, to, before);
+    if beyond(lent, most) {
+        return Opening::Malformed;
     }
-    if instants.len() < i {
-        return refused(out, to, before);
-    }
-    if poses.len() < p {
-        return refused(out, to, before);
-    }
-    let answer = registry::open::open(
-        &mut head[0..h],
-        &mut instants[0..i],
-        &mut poses[0..p],
+    Opening::Value(Store {
         rows,
         places,
         age,
-    );
-    let at = output::of_tree(out, to, answer);
-    Reply { at, lent }
+        lent,
+    })
 }
 
-// `open E S none`, `open E S AGE`
+// Opens a store in the part that its sizes ask for.
+fn open_in(head: &mut [u64], instants: &mut [u64], poses: &mut [f64], store: Store) -> Answer {
+    let lent = store.lent;
+    let age = store.age;
+    let h = least(lent.head, head.len());
+    let i = least(lent.instants, instants.len());
+    let p = least(lent.poses, poses.len());
+    registry::open::open(
+        &mut head[0..h],
+        &mut instants[0..i],
+        &mut poses[0..p],
+        store.rows,
+        store.places,
+        age,
+    )
+}
+
+// `open E S none`, `open E S AGE`: the part is lent from then on.
 fn open(
     line: &[u8],
     at: usize,
@@ -113,55 +141,54 @@ fn open(
     poses: &mut [f64],
     out: &mut [u8],
     to: usize,
-    lent: Lent,
+    before: Lent,
+    most: Lent,
 ) -> Reply {
-    let Number::Value(rows, second) = text::read_number(line, at) else {
-        return refused(out, to, lent);
+    let Opening::Value(store) = read_store(line, at, before, most) else {
+        return refused(out, to, before);
     };
-    let Number::Value(places, third) = text::read_number(line, second) else {
-        return refused(out, to, lent);
+    let answer = open_in(head, instants, poses, store);
+    let next = output::of_tree(out, to, answer);
+    let lent = store.lent;
+    Reply { at: next, lent }
+}
+
+enum Lending {
+    Value(Lent),
+    Malformed,
+}
+
+// `H I P`
+fn read_lent(line: &[u8], at: usize, most: Lent) -> Lending {
+    let Three::Value(h, i, p) = operands::last_three(line, at) else {
+        return Lending::Malformed;
     };
-    let Age::Value(age) = operands::last_age(line, third) else {
-        return refused(out, to, lent);
-    };
-    open_in(head, instants, poses, rows, places, age, out, to, lent)
+    if (most.head as u64) < h {
+        return Lending::Malformed;
+    }
+    if (most.instants as u64) < i {
+        return Lending::Malformed;
+    }
+    if (most.poses as u64) < p {
+        return Lending::Malformed;
+    }
+    Lending::Value(Lent {
+        head: h as usize,
+        instants: i as usize,
+        poses: p as usize,
+    })
 }
 
 // `lend H I P`
-fn lend(
-    line: &[u8],
-    at: usize,
-    head: &[u64],
-    instants: &[u64],
-    poses: &[f64],
-    out: &mut [u8],
-    to: usize,
-    lent: Lent,
-) -> Reply {
-    let Three::Value(h, i, p) = operands::last_three(line, at) else {
-        return refused(out, to, lent);
+fn lend(line: &[u8], at: usize, out: &mut [u8], to: usize, before: Lent, most: Lent) -> Reply {
+    let Lending::Value(lent) = read_lent(line, at, most) else {
+        return refused(out, to, before);
     };
-    if (head.len() as u64) < h {
-        return refused(out, to, lent);
-    }
-    if (instants.len() as u64) < i {
-        return refused(out, to, lent);
-    }
-    if (poses.len() as u64) < p {
-        return refused(out, to, lent);
-    }
     let next = output::done(out, to);
-    Reply {
-        at: next,
-        lent: Lent {
-            head: h as usize,
-            instants: i as usize,
-            poses: p as usize,
-        },
-    }
+    Reply { at: next, lent }
 }
 
-// The answer to a line that changes nothing of what is lent.
+// The answer to a line that changes nothing of what is lent. What is lent is within the memory.
 fn answer_lent(
     line: &[u8],
     head: &mut [u64],
@@ -171,18 +198,9 @@ fn answer_lent(
     to: usize,
     lent: Lent,
 ) -> usize {
-    let h = lent.head;
-    let i = lent.instants;
-    let p = lent.poses;
-    if head.len() < h {
-        return output::malformed(out, to);
-    }
-    if instants.len() < i {
-        return output::malformed(out, to);
-    }
-    if poses.len() < p {
-        return output::malformed(out, to);
-    }
+    let h = least(lent.head, head.len());
+    let i = least(lent.instants, instants.len());
+    let p = least(lent.poses, poses.len());
     store::answer(
         line,
         &mut head[0..h],
@@ -203,11 +221,18 @@ pub(crate) fn answer(
     to: usize,
     lent: Lent,
 ) -> Reply {
-    if let Keyword::Next(at) = text::read_keyword(line, 0, b"open") {
-        return open(line, at, head, instants, poses, out, to, lent);
+    let most = Lent {
+        head: head.len(),
+        instants: instants.len(),
+        poses: poses.len(),
+    };
+    let opened = operands::behind(line, 0, b"open");
+    if opened > 0 {
+        return open(line, opened, head, instants, poses, out, to, lent, most);
     }
-    if let Keyword::Next(at) = text::read_keyword(line, 0, b"lend") {
-        return lend(line, at, head, instants, poses, out, to, lent);
+    let lending = operands::behind(line, 0, b"lend");
+    if lending > 0 {
+        return lend(line, lending, out, to, lent, most);
     }
     let at = answer_lent(line, head, instants, poses, out, to, lent);
     Reply { at, lent }

@@ -33,6 +33,32 @@ pub(crate) enum Poses {
     Malformed,
 }
 
+// What an addition adds.
+pub(crate) struct Addition {
+    pub(crate) child: u32,
+    pub(crate) parent: u32,
+    pub(crate) stamp: Stamp,
+    pub(crate) pose: Isometry,
+}
+
+// The line's last words as an addition.
+pub(crate) enum Added {
+    Value(Addition),
+    Malformed,
+}
+
+// Two frames and an instant as the line's last words.
+pub(crate) enum Query {
+    Value(u32, u32, u64),
+    Malformed,
+}
+
+// A frame and an instant as the line's last words.
+pub(crate) enum Wipe {
+    Value(u32, u64),
+    Malformed,
+}
+
 // Two frames, and where the line goes on.
 pub(crate) enum Frames {
     Value(u32, u32, usize),
@@ -55,6 +81,14 @@ pub(crate) enum Three {
 pub(crate) enum Age {
     Value(MaxAge),
     Malformed,
+}
+
+// Where the line goes on behind the name, and 0 where another word stands at the place.
+pub(crate) fn behind(line: &[u8], at: usize, name: &[u8]) -> usize {
+    let Keyword::Next(next) = text::read_keyword(line, at, name) else {
+        return 0;
+    };
+    next
 }
 
 pub(crate) fn read_translation(line: &[u8], at: usize) -> Translation {
@@ -195,4 +229,56 @@ pub(crate) fn read_stamp(line: &[u8], at: usize) -> Stamped {
         1 => Stamped::Value(Stamp::At(instant), next),
         _ => Stamped::Malformed,
     }
+}
+
+// `CHILD PARENT KIND INSTANT P`
+pub(crate) fn read_addition(line: &[u8], at: usize) -> Added {
+    let Frames::Value(child, parent, second) = read_frames(line, at) else {
+        return Added::Malformed;
+    };
+    let Stamped::Value(stamp, third) = read_stamp(line, second) else {
+        return Added::Malformed;
+    };
+    let Pose::Value(pose, _) = last_pose(line, third) else {
+        return Added::Malformed;
+    };
+    Added::Value(Addition {
+        child,
+        parent,
+        stamp,
+        pose,
+    })
+}
+
+// `TARGET SOURCE INSTANT`
+pub(crate) fn read_query(line: &[u8], at: usize) -> Query {
+    let Frames::Value(target, source, next) = read_frames(line, at) else {
+        return Query::Malformed;
+    };
+    let Number::Value(t, _) = last_number(line, next) else {
+        return Query::Malformed;
+    };
+    Query::Value(target, source, t)
+}
+
+// `TARGET SOURCE`
+pub(crate) fn last_frames(line: &[u8], at: usize) -> Frames {
+    let Frames::Value(target, source, next) = read_frames(line, at) else {
+        return Frames::Malformed;
+    };
+    if text::ended(line, next) {
+        return Frames::Value(target, source, next);
+    }
+    Frames::Malformed
+}
+
+// `CHILD INSTANT`
+pub(crate) fn read_wipe(line: &[u8], at: usize) -> Wipe {
+    let Frame::Value(child, next) = text::read_frame(line, at) else {
+        return Wipe::Malformed;
+    };
+    let Number::Value(t, _) = last_number(line, next) else {
+        return Wipe::Malformed;
+    };
+    Wipe::Value(child, t)
 }

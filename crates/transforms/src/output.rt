@@ -31,6 +31,14 @@ pub(crate) fn done(out: &mut [u8], at: usize) -> usize {
     text::write_bytes(out, at, b"done")
 }
 
+// `done`, or that the line is malformed.
+pub(crate) fn done_if(out: &mut [u8], at: usize, written: bool) -> usize {
+    if written {
+        return done(out, at);
+    }
+    malformed(out, at)
+}
+
 pub(crate) fn line_end(out: &mut [u8], at: usize) -> usize {
     text::write_bytes(out, at, b"\n")
 }

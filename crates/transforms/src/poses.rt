@@ -4,18 +4,25 @@ use super::operands::Pose;
 use super::operands::Poses;
 use super::operands::Three;
 use super::output;
+use geometry::libm;
 use text::Float;
-use text::Keyword;
 
 // `mul P P`
-fn mul(line: &[u8], at: usize, out: &mut [u8], to: usize) -> usize {
+fn mul(line: &[u8], at: usize) -> Pose {
     let Poses::Value(a, b, next) = operands::read_poses(line, at) else {
-        return output::malformed(out, to);
+        return Pose::Malformed;
     };
     if text::ended(line, next) {
-        return answers::write_pose(out, to, a.mul(b));
+        return Pose::Value(a.mul(b), next);
     }
-    output::malformed(out, to)
+    Pose::Malformed
+}
+
+fn answer_mul(line: &[u8], at: usize, out: &mut [u8], to: usize) -> usize {
+    let Pose::Value(p, _) = mul(line, at) else {
+        return output::malformed(out, to);
+    };
+    answers::write_pose(out, to, p)
 }
 
 // `inv P`
@@ -38,48 +45,70 @@ fn interp(line: &[u8], at: usize, out: &mut [u8], to: usize) -> usize {
 }
 
 // `sqrt F`
-fn sqrt(line: &[u8], at: usize, out: &mut [u8], to: usize) -> usize {
-    let Float::Value(x, _) = operands::last_float(line, at) else {
-        return output::malformed(out, to);
+fn sqrt(line: &[u8], at: usize) -> Float {
+    let Float::Value(x, next) = operands::last_float(line, at) else {
+        return Float::Malformed;
     };
-    answers::write_float_answer(out, to, geometry::libm::sqrt(x))
+    Float::Value(libm::sqrt(x), next)
 }
 
 // `acos F`
-fn acos(line: &[u8], at: usize, out: &mut [u8], to: usize) -> usize {
-    let Float::Value(x, _) = operands::last_float(line, at) else {
-        return output::malformed(out, to);
+fn acos(line: &[u8], at: usize) -> Float {
+    let Float::Value(x, next) = operands::last_float(line, at) else {
+        return Float::Malformed;
     };
-    answers::write_float_answer(out, to, geometry::libm::acos(x))
+    Float::Value(libm::acos(x), next)
 }
 
 // `sin F`
-fn sin(line: &[u8], at: usize, out: &mut [u8], to: usize) -> usize {
-    let Float::Value(x, _) = operands::last_float(line, at) else {
+fn sin(line: &[u8], at: usize) -> Float {
+    let Float::Value(x, next) = operands::last_float(line, at) else {
+        return Float::Malformed;
+    };
+    Float::Value(libm::sin(x), next)
+}
+
+// What a function of floats gives; malformed for any other line.
+fn function(line: &[u8]) -> Float {
+    let root = operands::behind(line, 0, b"sqrt");
+    if root > 0 {
+        return sqrt(line, root);
+    }
+    let cosine = operands::behind(line, 0, b"acos");
+    if cosine > 0 {
+        return acos(line, cosine);
+    }
+    let angle = operands::behind(line, 0, b"sin");
+    if angle > 0 {
+        return sin(line, angle);
+    }
+    Float::Malformed
+}
+
+fn answer_function(line: &[u8], out: &mut [u8], to: usize) -> usize {
+    let Float::Value(x, _) = function(line) else {
         return output::malformed(out, to);
     };
-    answers::write_float_answer(out, to, geometry::libm::sin(x))
+    answers::write_float_answer(out, to, x)
+}
+
+fn answer_timed(line: &[u8], out: &mut [u8], to: usize) -> usize {
+    let at = operands::behind(line, 0, b"interp");
+    if at > 0 {
+        return interp(line, at, out, to);
+    }
+    answer_function(line, out, to)
 }
 
 // The answer to a line that is none of the other operations.
 pub(crate) fn answer(line: &[u8], out: &mut [u8], to: usize) -> usize {
-    if let Keyword::Next(at) = text::read_keyword(line, 0, b"mul") {
-        return mul(line, at, out, to);
+    let factors = operands::behind(line, 0, b"mul");
+    if factors > 0 {
+        return answer_mul(line, factors, out, to);
     }
-    if let Keyword::Next(at) = text::read_keyword(line, 0, b"inv") {
-        return inv(line, at, out, to);
+    let inverted = operands::behind(line, 0, b"inv");
+    if inverted > 0 {
+        return inv(line, inverted, out, to);
     }
-    if let Keyword::Next(at) = text::read_keyword(line, 0, b"interp") {
-        return interp(line, at, out, to);
-    }
-    if let Keyword::Next(at) = text::read_keyword(line, 0, b"sqrt") {
-        return sqrt(line, at, out, to);
-    }
-    if let Keyword::Next(at) = text::read_keyword(line, 0, b"acos") {
-        return acos(line, at, out, to);
-    }
-    if let Keyword::Next(at) = text::read_keyword(line, 0, b"sin") {
-        return sin(line, at, out, to);
-    }
-    output::malformed(out, to)
+    answer_timed(line, out, to)
 }

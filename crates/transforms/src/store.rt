@@ -1,13 +1,12 @@
 // The operations on the store in the three slices that are lent.
 use super::operands;
+use super::operands::Added;
 use super::operands::Frames;
-use super::operands::Pose;
-use super::operands::Stamped;
+use super::operands::Query;
+use super::operands::Wipe;
 use super::output;
 use super::poses;
 use text::Float;
-use text::Frame;
-use text::Keyword;
 use text::Number;
 
 // `add CHILD PARENT KIND INSTANT P`
@@ -20,15 +19,13 @@ fn add(
     out: &mut [u8],
     to: usize,
 ) -> usize {
-    let Frames::Value(child, parent, second) = operands::read_frames(line, at) else {
+    let Added::Value(a) = operands::read_addition(line, at) else {
         return output::malformed(out, to);
     };
-    let Stamped::Value(stamp, third) = operands::read_stamp(line, second) else {
-        return output::malformed(out, to);
-    };
-    let Pose::Value(pose, _) = operands::last_pose(line, third) else {
-        return output::malformed(out, to);
-    };
+    let child = a.child;
+    let parent = a.parent;
+    let stamp = a.stamp;
+    let pose = a.pose;
     let answer = registry::add::add_transform(head, instants, poses, child, parent, stamp, pose);
     output::of_tree(out, to, answer)
 }
@@ -43,10 +40,7 @@ fn wipe(
     out: &mut [u8],
     to: usize,
 ) -> usize {
-    let Frame::Value(child, next) = text::read_frame(line, at) else {
-        return output::malformed(out, to);
-    };
-    let Number::Value(t, _) = operands::last_number(line, next) else {
+    let Wipe::Value(child, t) = operands::read_wipe(line, at) else {
         return output::malformed(out, to);
     };
     let answer = registry::remove_before::remove_before(head, instants, poses, child, t);
@@ -63,10 +57,7 @@ fn lookup(
     out: &mut [u8],
     to: usize,
 ) -> usize {
-    let Frames::Value(target, source, next) = operands::read_frames(line, at) else {
-        return output::malformed(out, to);
-    };
-    let Number::Value(t, _) = operands::last_number(line, next) else {
+    let Query::Value(target, source, t) = operands::read_query(line, at) else {
         return output::malformed(out, to);
     };
     let answer = registry::get_transform::get_transform(head, instants, poses, target, source, t);
@@ -83,12 +74,9 @@ fn common(
     out: &mut [u8],
     to: usize,
 ) -> usize {
-    let Frames::Value(target, source, next) = operands::read_frames(line, at) else {
+    let Frames::Value(target, source, _) = operands::last_frames(line, at) else {
         return output::malformed(out, to);
     };
-    if !text::ended(line, next) {
-        return output::malformed(out, to);
-    }
     let answer = registry::latest_common_time::latest_common_time(
         head,
         instants,
@@ -143,56 +131,104 @@ fn words(
     all_floats(b"poses", poses, out, fourth)
 }
 
-// `I N`: writes one word.
-fn set_word(line: &[u8], at: usize, words: &mut [u64], out: &mut [u8], to: usize) -> usize {
+// `I N`: writes one word, and says whether there is one.
+fn set_word(line: &[u8], at: usize, words: &mut [u64]) -> bool {
     let Number::Value(place, next) = text::read_number(line, at) else {
-        return output::malformed(out, to);
+        return false;
     };
     let Number::Value(word, _) = operands::last_number(line, next) else {
-        return output::malformed(out, to);
+        return false;
     };
     if words.len() as u64 <= place {
-        return output::malformed(out, to);
+        return false;
     }
     words[place as usize] = word;
-    output::done(out, to)
+    true
 }
 
-// `I F`: writes one float.
-fn set_float(line: &[u8], at: usize, floats: &mut [f64], out: &mut [u8], to: usize) -> usize {
+// `I F`: writes one float, and says whether there is one.
+fn set_float(line: &[u8], at: usize, floats: &mut [f64]) -> bool {
     let Number::Value(place, next) = text::read_number(line, at) else {
-        return output::malformed(out, to);
+        return false;
     };
     let Float::Value(float, _) = operands::last_float(line, next) else {
-        return output::malformed(out, to);
+        return false;
     };
     if floats.len() as u64 <= place {
-        return output::malformed(out, to);
+        return false;
     }
     floats[place as usize] = float;
-    output::done(out, to)
+    true
 }
 
-// `set head I N`, `set instants I N`, `set poses I F`
-fn set(
+// `head I N`, `instants I N`, `poses I F`
+fn set(line: &[u8], at: usize, head: &mut [u64], instants: &mut [u64], poses: &mut [f64]) -> bool {
+    let first = operands::behind(line, at, b"head");
+    if first > 0 {
+        return set_word(line, first, head);
+    }
+    let second = operands::behind(line, at, b"instants");
+    if second > 0 {
+        return set_word(line, second, instants);
+    }
+    let third = operands::behind(line, at, b"poses");
+    if third > 0 {
+        return set_float(line, third, poses);
+    }
+    false
+}
+
+// The answer to a line that asks for words, or for none.
+fn answer_words(
     line: &[u8],
-    at: usize,
+    head: &[u64],
+    instants: &[u64],
+    poses: &[f64],
+    out: &mut [u8],
+    to: usize,
+) -> usize {
+    let at = operands::behind(line, 0, b"words");
+    if at > 0 {
+        return words(line, at, head, instants, poses, out, to);
+    }
+    poses::answer(line, out, to)
+}
+
+// The answer to a line that changes nothing.
+fn answer_query(
+    line: &[u8],
+    head: &[u64],
+    instants: &[u64],
+    poses: &[f64],
+    out: &mut [u8],
+    to: usize,
+) -> usize {
+    let query = operands::behind(line, 0, b"lookup");
+    if query > 0 {
+        return lookup(line, query, head, instants, poses, out, to);
+    }
+    let frames = operands::behind(line, 0, b"common");
+    if frames > 0 {
+        return common(line, frames, head, instants, poses, out, to);
+    }
+    answer_words(line, head, instants, poses, out, to)
+}
+
+// The answer to a line that changes no sample by the registry.
+fn answer_set(
+    line: &[u8],
     head: &mut [u64],
     instants: &mut [u64],
     poses: &mut [f64],
     out: &mut [u8],
     to: usize,
 ) -> usize {
-    if let Keyword::Next(next) = text::read_keyword(line, at, b"head") {
-        return set_word(line, next, head, out, to);
+    let at = operands::behind(line, 0, b"set");
+    if at > 0 {
+        let written = set(line, at, head, instants, poses);
+        return output::done_if(out, to, written);
     }
-    if let Keyword::Next(next) = text::read_keyword(line, at, b"instants") {
-        return set_word(line, next, instants, out, to);
-    }
-    if let Keyword::Next(next) = text::read_keyword(line, at, b"poses") {
-        return set_float(line, next, poses, out, to);
-    }
-    output::malformed(out, to)
+    answer_query(line, head, instants, poses, out, to)
 }
 
 // The answer to a line, with these slices lent.
@@ -204,23 +240,13 @@ pub(crate) fn answer(
     out: &mut [u8],
     to: usize,
 ) -> usize {
-    if let Keyword::Next(at) = text::read_keyword(line, 0, b"add") {
-        return add(line, at, head, instants, poses, out, to);
+    let added = operands::behind(line, 0, b"add");
+    if added > 0 {
+        return add(line, added, head, instants, poses, out, to);
     }
-    if let Keyword::Next(at) = text::read_keyword(line, 0, b"wipe") {
-        return wipe(line, at, head, instants, poses, out, to);
+    let wiped = operands::behind(line, 0, b"wipe");
+    if wiped > 0 {
+        return wipe(line, wiped, head, instants, poses, out, to);
     }
-    if let Keyword::Next(at) = text::read_keyword(line, 0, b"lookup") {
-        return lookup(line, at, head, instants, poses, out, to);
-    }
-    if let Keyword::Next(at) = text::read_keyword(line, 0, b"common") {
-        return common(line, at, head, instants, poses, out, to);
-    }
-    if let Keyword::Next(at) = text::read_keyword(line, 0, b"words") {
-        return words(line, at, head, instants, poses, out, to);
-    }
-    if let Keyword::Next(at) = text::read_keyword(line, 0, b"set") {
-        return set(line, at, head, instants, poses, out, to);
-    }
-    poses::answer(line, out, to)
+    answer_set(line, head, instants, poses, out, to)
 }
