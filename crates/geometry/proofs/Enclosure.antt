@@ -349,15 +349,16 @@ square-itself least s most t =
     (h, h)
 
 -- k steps, the last eight with the square itself
-pub all-but-eight : (least most s low high low' high' : Float) (k : ℕ) → Square least → Square most → Within least most s → 8 ≤ k → k ≤ 48
+pub all-but-eight : (least most s low high low' high' low'' high'' : Float) (k : ℕ) → Square least → Square most → Within least most s → 8 ≤ k → k ≤ 48
     → Bound low → Bound high → Encloses least most k low high → low' ≡ run (k - 8) 8 least low → high' ≡ run (k - 8) 8 most high
-    → Bound (run 8 0 s low') × Bound (run 8 0 s high') × Encloses s s 0 (run 8 0 s low') (run 8 0 s high')
-all-but-eight least most s low high low' high' k a b w p q v u e f g =
+    → low'' ≡ run 8 0 s low' → high'' ≡ run 8 0 s high' → Bound low'' × Bound high'' × Encloses s s 0 low'' high''
+all-but-eight least most s low high low' high' low'' high'' k a b w p q v u e f g f' g' =
     let i : 8 + (k - 8) ≡ k = omega arith in
     let j : 8 + (k - 8) ≤ 48 = omega arith in
     let c = square-of least most s a b w in
-    let r = runs (k - 8) 8 least most low high j a b v u (subst (λ (n : ℕ). Encloses least most n low high) (sym i) e) in
-    let t : Bound low' × Bound high' × Encloses least most 8 low' high' =
-    subst (λ (x : Float). Bound x × Bound high' × Encloses least most 8 x high') (sym f)
-    (subst (λ (y : Float). Bound (run (k - 8) 8 least low) × Bound y × Encloses least most 8 (run (k - 8) 8 least low) y) (sym g) r) in
-    runs 8 0 s s low' high' (omega arith) c c (t .0) (t .1) (narrower least most s low' high' 8 a b w (t .2))
+    let (x, y, r) = at least most 8 f g (runs (k - 8) 8 least most low high j a b v u (subst (λ (n : ℕ). Encloses least most n low high) (sym i) e)) in
+    at s s 0 f' g' (runs 8 0 s s low' high' (omega arith) c c x y (narrower least most s low' high' 8 a b w r))
+  where
+    at : (l m : Float) (n : ℕ) {x y x' y' : Float} → x' ≡ x → y' ≡ y → Bound x × Bound y × Encloses l m n x y → Bound x' × Bound y' × Encloses l m n x' y'
+    at l m n {x} {y' = y'} e f r =
+        subst (λ (a : Float). Bound a × Bound y' × Encloses l m n a y') (sym e) (subst (λ (b : Float). Bound x × Bound b × Encloses l m n x b) (sym f) r)
