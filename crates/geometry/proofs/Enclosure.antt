@@ -1,9 +1,9 @@
 -- The arc cosine's steps keep the order, so that bounds of a value before a step give bounds of it after the step.
-use mathlib.Core.Path.{_≡_, refl, sym, ap, ap₂, _∙_, subst}
+use mathlib.Core.Path.{_≡_, refl, sym, ap, _∙_, subst}
 use mathlib.Core.Logic.{inl, inr}
 use mathlib.Core.Bool.{Bool, true, false, _&&_}
 use Prim.Native.Nat.{ℕ, zero, suc, _+_, _-_, _*_, _^_, _≤_, _<_}
-use native.Mathlib.Nat.{le-refl, le-trans, le-antisymm, add-mul, mul-comm, mul-one, one-mul, eq-of-mul-eq-mul-right, zero-lt-suc, not-suc-le-zero, eq-or-lt-of-le, le-of-suc-le-suc}
+use native.Mathlib.Nat.{le-refl, le-trans, le-antisymm, add-mul, mul-comm, mul-one, one-mul, eq-of-mul-eq-mul-right, zero-lt-suc, not-suc-le-zero, eq-or-lt-of-le, le-of-suc-le-suc, add-zero}
 use native.Mathlib.Omega.{arith}
 use lib.Dec.{T}
 use lib.Pow.{pow-pos}
@@ -14,7 +14,7 @@ use lib.Ieee.Positive.{num, den, den-pos, positive, le→cross, cross→le, le-t
 use Rattle.time.specs.Float.{_⊕_, _⊗_, _⊘_, whole, one64, two64}
 use Rattle.geometry.specs.Libm.{numerator, denominator, acosSteps}
 use Rattle.geometry.specs.Laws.{Units}
-use Rattle.geometry.specs.Enclosure.{Within, leastSquare, mostSquare, Square, Value, Bound, Stands, Encloses}
+use Rattle.geometry.specs.Enclosure.{step, run, Within, leastSquare, mostSquare, Square, Value, Bound, Stands, Encloses}
 use Rattle.geometry.proofs.Series.{acos-step}
 use Rattle.geometry.proofs.SqrtOrder.{same-units, units-of}
 
@@ -157,9 +157,6 @@ square-positive s h = between leastSquare s mostSquare least-positive most-posit
 value-positive : (h : Float) → Value h → T (positive h)
 value-positive h v = between one64 h two64 one-positive two-positive (v .0) (v .1)
 
-abbrev step : ℕ → Float → Float → Float
-step k s h = one64 ⊕ s ⊗ quotient k ⊗ h
-
 module _ (k : ℕ) (p : 0 < k) (q : k ≤ 48) where
   scaled-mono : (s t : Float) → T (positive s) → T (positive t) → T (le s t) → T (le (s ⊗ quotient k) (t ⊗ quotient k))
   scaled-mono s t a b h = let c = entry k p q .own in mul-mono binary64 s t (quotient k) (quotient k) a b c c h (same (quotient k) c)
@@ -285,21 +282,25 @@ met z low high (f, v) (t, w) (h, g, i, r) l =
 
 -- ---- as the code has them
 
-pub next : (least most low high n d : Float) (k : ℕ) → Square least → Square most → Bound low → Bound high → 0 < k → k ≤ 48
-    → n ≡ whole (numerator k) → d ≡ whole (denominator k) → Encloses least most k low high
-    → Bound (one64 ⊕ least ⊗ (n ⊘ d) ⊗ low) × Bound (one64 ⊕ most ⊗ (n ⊘ d) ⊗ high) × Encloses least most (k - 1) (one64 ⊕ least ⊗ (n ⊘ d) ⊗ low) (one64 ⊕ most ⊗ (n ⊘ d) ⊗ high)
-next least most low high n d k a b v w p q e f r =
-    subst (λ (c : Float). Bound (one64 ⊕ least ⊗ c ⊗ low) × Bound (one64 ⊕ most ⊗ c ⊗ high) × Encloses least most (k - 1) (one64 ⊕ least ⊗ c ⊗ low) (one64 ⊕ most ⊗ c ⊗ high)) (sym (ap₂ _⊘_ e f)) (
-      (add-fits binary64 one64 (least ⊗ quotient k ⊗ low), step-value k p q least low a (v .1)),
-      (add-fits binary64 one64 (most ⊗ quotient k ⊗ high), step-value k p q most high b (w .1)),
-      one-step least most low high k a b (v .1) (w .1) p q r,
-    )
+-- n steps keep the bounds
+runs : (n j : ℕ) (least most low high : Float) → j + n ≤ 48 → Square least → Square most → Bound low → Bound high → Encloses least most (j + n) low high
+    → Bound (run n j least low) × Bound (run n j most high) × Encloses least most j (run n j least low) (run n j most high)
+unfolding run
+runs zero j least most low high q a b v w e = (v, w, subst (λ (k : ℕ). Encloses least most k low high) (add-zero j) e)
+runs (suc n) j least most low high q a b v w e =
+    let k : ℕ = j + suc n in
+    let p : 0 < k = omega arith in
+    let d : k - 1 ≡ j + n = omega arith in
+    runs n j least most (step k least low) (step k most high) (omega arith) a b
+    (add-fits binary64 one64 (least ⊗ quotient k ⊗ low), step-value k p q least low a (v .1))
+    (add-fits binary64 one64 (most ⊗ quotient k ⊗ high), step-value k p q most high b (w .1))
+    (subst (λ (i : ℕ). Encloses least most i (step k least low) (step k most high)) d (one-step least most low high k a b (v .1) (w .1) p q e))
 
-pub narrower : (least most s low high : Float) (k : ℕ) → Square least → Square most → Within least most s → Encloses least most k low high → Encloses s s k low high
+narrower : (least most s low high : Float) (k : ℕ) → Square least → Square most → Within least most s → Encloses least most k low high → Encloses s s k low high
 narrower least most s low high k a b w e z r =
     e z (inside least most s s (z ⊗ z) (square-positive least a) (square-positive most b) w w r)
 
-pub square-of : (least most s : Float) → Square least → Square most → Within least most s → Square s
+square-of : (least most s : Float) → Square least → Square most → Within least most s → Square s
 square-of least most s a b w = inside leastSquare mostSquare least most s least-positive most-positive a b w
 
 -- ---- the test of the bounds
@@ -346,3 +347,18 @@ square-itself least s most t =
     let (a, b, w) = tested least s most t in
     let h = same s (square-positive s (square-of least most s a b w)) in
     (h, h)
+
+-- k steps, the last eight with the square itself
+pub all-but-eight : (least most s low high low' high' low'' high'' : Float) (k : ℕ) → Square least → Square most → Within least most s → 8 ≤ k → k ≤ 48
+    → Bound low → Bound high → Encloses least most k low high → low' ≡ run (k - 8) 8 least low → high' ≡ run (k - 8) 8 most high
+    → low'' ≡ run 8 0 s low' → high'' ≡ run 8 0 s high' → Bound low'' × Bound high'' × Encloses s s 0 low'' high''
+all-but-eight least most s low high low' high' low'' high'' k a b w p q v u e f g f' g' =
+    let i : 8 + (k - 8) ≡ k = omega arith in
+    let j : 8 + (k - 8) ≤ 48 = omega arith in
+    let c = square-of least most s a b w in
+    let (x, y, r) = at least most 8 f g (runs (k - 8) 8 least most low high j a b v u (subst (λ (n : ℕ). Encloses least most n low high) (sym i) e)) in
+    at s s 0 f' g' (runs 8 0 s s low' high' (omega arith) c c x y (narrower least most s low' high' 8 a b w r))
+  where
+    at : (l m : Float) (n : ℕ) {x y x' y' : Float} → x' ≡ x → y' ≡ y → Bound x × Bound y × Encloses l m n x y → Bound x' × Bound y' × Encloses l m n x' y'
+    at l m n {x} {y' = y'} e f r =
+        subst (λ (a : Float). Bound a × Bound y' × Encloses l m n a y') (sym e) (subst (λ (b : Float). Bound x × Bound b × Encloses l m n x b) (sym f) r)

@@ -1,10 +1,18 @@
--- Bounds of the arc cosine's steps, for the contracts of the private steps of the code: no public contract rests on them.
+-- Runs of the arc cosine's steps and bounds of them, for the contracts of the private steps of the code: no public contract rests on them.
 use mathlib.Core.Path.{_≡_}
-use Prim.Native.Nat.{ℕ}
+use Prim.Native.Nat.{ℕ, zero, suc, _+_}
 use lib.Dec.{T}
 use lib.Ieee.{Float, binary64, fits, le, ofBits}
-use Rattle.time.specs.Float.{_⊗_, one64, two64}
-use Rattle.geometry.specs.Libm.{acosSteps}
+use Rattle.time.specs.Float.{_⊕_, _⊗_, _⊘_, whole, one64, two64}
+use Rattle.geometry.specs.Libm.{numerator, denominator, acosSteps}
+
+-- one step with the square s, and n of them down to j
+abbrev pub step : ℕ → Float → Float → Float
+step k s h = one64 ⊕ s ⊗ (whole (numerator k) ⊘ whole (denominator k)) ⊗ h
+
+unfoldable pub run : ℕ → ℕ → Float → Float → Float
+run zero j s h = h
+run (suc n) j s h = run n j s (step (j + suc n) s h)
 
 abbrev pub Within : Float → Float → Float → Type 0
 Within low high x = T (le low x) × T (le x high)

@@ -1,11 +1,11 @@
 // The steps of the arc cosine and of the sine: their fixed table, and the value that the arc cosine's
 // 48 steps give.
 ghost use mathlib.Core.Path.{_≡_};
-ghost use Prim.Native.Nat.{_≤_};
+ghost use Prim.Native.Nat.{_-_, _≤_};
 ghost use lib.Ieee.{Float};
 ghost use Rattle.time.specs.Float.{whole, one64};
 ghost use Rattle.geometry.specs.Libm.{denominator, acosSteps};
-ghost use Rattle.geometry.specs.Enclosure.{Within, Square, Bound, Encloses};
+ghost use Rattle.geometry.specs.Enclosure.{run, Within, Square, Bound, Encloses};
 use super::float::to_bits;
 
 // Two values that a third lies between.
@@ -126,27 +126,11 @@ pub fn denominator(k: usize) -> f64
     DENOMINATORS[i] as f64
 }
 
-// All 48 steps, one after the other.
-fn acos_steps(z: f64) -> f64
-    ensures { λ r. ⌜ r ≡ acosSteps 48 z one64 ⌝ }
-{
-    let numerators = NUMERATORS;
-    let denominators = DENOMINATORS;
-    let mut h = 1.0f64;
-    let mut k = 48usize;
-    while 0 < k {
-        let i = k - 1;
-        h = 1.0 + z * z * (numerators[i] as f64 / denominators[i] as f64) * h;
-        k = i;
-    }
-    h
-}
-
-// The steps from `from` down to `to` of both bounds, with the least and the greatest square: a step
-// keeps the order.
-fn enclose(least: f64, most: f64, from: usize, to: usize, start: Bounds) -> Bounds
-    requires { ⌜ Square least × Square most × Bound (start .low) × Bound (start .high) × (to ≤ from) × (from ≤ 48) × Encloses least most from (start .low) (start .high) ⌝ }
-    ensures { λ r. ⌜ Bound (r .low) × Bound (r .high) × Encloses least most to (r .low) (r .high) ⌝ }
+// The steps from `from` down to `to`, with the square `least` from `start.low` and with `most` from
+// `start.high`.
+fn steps(least: f64, most: f64, from: usize, to: usize, start: Bounds) -> Bounds
+    requires { ⌜ (to ≤ from) × (from ≤ 48) ⌝ }
+    ensures { λ r. ⌜ (r .low ≡ run (from - to) to least (start .low)) × (r .high ≡ run (from - to) to most (start .high)) ⌝ }
 {
     let numerators = NUMERATORS;
     let denominators = DENOMINATORS;
@@ -200,14 +184,14 @@ fn enough(square: f64) -> usize
     k as usize
 }
 
-// The bounds after the last step. The square itself is used in the last eight alone, so that the
+// The bounds after the last step: a step keeps the order. The square itself is used in the last eight alone, so that the
 // first ones need not wait for the root.
 fn enclosed(square: f64, least: f64, most: f64, k: usize) -> Bounds
     requires { ⌜ Square least × Square most × Within least most square × (8 ≤ k) × (k ≤ 48) ⌝ }
     ensures { λ r. ⌜ Bound (r .low) × Bound (r .high) × Encloses square square 0 (r .low) (r .high) ⌝ }
 {
-    let rough = enclose(least, most, k, 8, start(k));
-    enclose(square, square, 8, 0, rough)
+    let rough = steps(least, most, k, 8, start(k));
+    steps(square, square, 8, 0, rough)
 }
 
 // What the 48 steps give, with `near` about the square of z: bounds that meet have it between them.
@@ -227,5 +211,14 @@ pub fn acos_sum(z: f64, near: f64) -> f64
             return bounds.low;
         }
     }
-    acos_steps(z)
+    steps(
+        square,
+        square,
+        48,
+        0,
+        Bounds {
+            low: 1.0,
+            high: 1.0,
+        },
+    ).low
 }

@@ -1,6 +1,8 @@
-use mathlib.Core.Path.{sym, subst}
+use mathlib.Core.Path.{sym, _∙_, subst}
 use lib.Dec.{T}
 use borrow.Author.Needs.{needs}
+use Rattle.time.specs.Float.{one64}
+use Rattle.geometry.proofs.Series.{run-all}
 use Rattle.geometry.proofs.Enclosure.{met, tested, square-itself}
 use Rattle.geometry.proofs.terms.acos_sum.Statement.{statement}
 use Rattle.geometry.proofs.terms.acos_sum.Tie as tie
@@ -20,12 +22,12 @@ returns c =
     let q = e .2 z (square-itself _ _ _ (subst T (sym (c .before .before .before .before .if1 .taken)) tt)) in
     met z _ _ (e .0) (e .1) q (subst T (sym (c .if2 .taken)) tt)
 
-acos-steps-requires : tie.Need-acos-steps-requires
-acos-steps-requires c κs = search needs
+steps-requires : tie.Need-steps-requires
+steps-requires c κs = search needs
 
 returns-2 : tie.Need-returns-2
-returns-2 c = search needs
+returns-2 c = c .steps .ensures .0 ∙ run-all 48 _ one64
 
 pub acos-sum-spec : {M : Type 1} → statement M
 acos-sum-spec =
-    tie.close (tie.spec enough-requires enclosed-requires returns acos-steps-requires returns-2)
+    tie.close (tie.spec enough-requires enclosed-requires returns steps-requires returns-2)

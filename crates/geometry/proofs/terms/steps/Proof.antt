@@ -1,23 +1,24 @@
-use mathlib.Core.Path.{_≡_, ap, subst}
-use Prim.Native.Nat.{ℕ, _≤_, _<_}
+use mathlib.Core.Path.{_≡_, refl, sym, ap, _∙_}
+use Prim.Native.Nat.{_-_, _≤_, _<_}
 use native.Mathlib.Omega.{arith}
 use borrow.Author.Needs.{needs}
 use Rattle.time.specs.Float.{whole}
 use Rattle.geometry.specs.Libm.{numerator, denominator}
-use Rattle.geometry.specs.Enclosure.{Bound, Encloses}
-use Rattle.geometry.proofs.Enclosure.{next}
+use Rattle.geometry.specs.Enclosure.{run}
+use Rattle.geometry.proofs.Series.{run-step, run-end}
 use Rattle.geometry.proofs.Table.{table, entry}
-use Rattle.geometry.proofs.terms.enclose.Statement.{statement}
-use Rattle.geometry.proofs.terms.enclose.Tie as tie
+use Rattle.geometry.proofs.terms.steps.Statement.{statement}
+use Rattle.geometry.proofs.terms.steps.Tie as tie
 
 abbrev Inv-loop : tie.InvT-loop
-Inv-loop least most from to numerators denominators low₀ high₀ k₀ low high k = (to ≤ k) × (k ≤ 48) × Bound low × Bound high × Encloses least most k low high
+Inv-loop least most from to numerators denominators low₀ high₀ k₀ low high k =
+    (to ≤ k) × (k ≤ 48) × (run (k - to) to least low ≡ run (from - to) to least low₀) × (run (k - to) to most high ≡ run (from - to) to most high₀)
 
 abbrev μ-loop : tie.MeasureT-loop
 μ-loop least most from to numerators denominators low₀ high₀ k₀ low high k = k
 
 loop-holds : tie.Need-loop-holds Inv-loop μ-loop
-loop-holds c = (c .pre .4, c .pre .5, c .pre .2, c .pre .3, c .pre .6)
+loop-holds c = (c .pre .0, c .pre .1, refl, refl)
 
 sub-i : tie.Need-sub-i Inv-loop μ-loop
 sub-i c = search needs
@@ -48,23 +49,27 @@ unfolding table
 loop-again c =
     let at = c .before .before .before in
     let k = at .loop .k in
+    let to = at .before .args .to in
     let i = at .loop .inv in
+    let l = c .before .before .loop-test .taken in
     let p : 0 < k = omega arith in
-    let pre = at .before .pre in
-    let r =
-    next (at .before .args .least) (at .before .args .most) (at .loop .low) (at .loop .high) _ _ k (pre .0) (pre .1) (i .2) (i .3) p (i .1)
-    (ap whole (entry numerator 48 k p (i .1))) (ap whole (entry denominator 48 k p (i .1))) (i .4) in
-    (omega arith, omega arith, r .0, r .1, r .2)
+    let n = ap whole (entry numerator 48 k p (i .1)) in
+    let d = ap whole (entry denominator 48 k p (i .1)) in (
+      omega arith,
+      omega arith,
+      run-step (k - to) to k (at .before .args .least) (at .loop .low) _ _ refl l n d ∙ i .2,
+      run-step (k - to) to k (at .before .args .most) (at .loop .high) _ _ refl l n d ∙ i .3,
+    )
 
 returns : tie.Need-returns Inv-loop μ-loop
 returns c =
     let at = c .before in
     let i = at .loop .inv in
-    let e : at .loop .k ≡ at .before .args .to = omega arith in
-    (i .2, i .3, subst (λ (k : ℕ). Encloses (at .before .args .least) (at .before .args .most) k (at .loop .low) (at .loop .high)) e (i .4))
+    let e : at .loop .k - at .before .args .to ≤ 0 = omega arith in
+    (sym (run-end _ _ _ (at .loop .low) e) ∙ i .2, sym (run-end _ _ _ (at .loop .high) e) ∙ i .3)
 
-pub enclose-spec : {M : Type 1} → statement M
-enclose-spec =
+pub steps-spec : {M : Type 1} → statement M
+steps-spec =
     tie.close
     (tie.spec
     Inv-loop
