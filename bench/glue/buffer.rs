@@ -9,11 +9,9 @@ impl Buffer<Timestamp> {
             child: self.child.clone(),
             kind: match &self.kind {
                 Kind::Static(slot) => Kind::Static(slot.clone()),
-                Kind::Dynamic { data, latest_timestamp, max_age } => Kind::Dynamic {
-                    data: data.clone(),
-                    latest_timestamp: *latest_timestamp,
-                    max_age: *max_age,
-                },
+                Kind::Dynamic { data, latest_timestamp, max_age } => {
+                    Kind::Dynamic { data: data.clone(), latest_timestamp: *latest_timestamp, max_age: *max_age }
+                }
             },
         }
     }

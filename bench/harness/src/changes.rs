@@ -149,8 +149,10 @@ pub fn rows(rounds: usize, rows: usize, samples: usize) -> Vec<Row> {
     let full = Scene::filled(rows, samples, samples, Some(age), Roots::One);
     let expiring = each(&mut |_, turn| (samples as u64 + 1 + turn) * STEP);
     out.push(batch("addition with expiry of one", &full, samples as u64 + 8).additions(&expiring));
-    let wipes: Vec<(u32, u64)> =
-        [1, 2, 3].iter().flat_map(|k| children.iter().map(move |c| (*c, (k * samples as u64 / 4 + 1) * STEP))).collect();
+    let wipes: Vec<(u32, u64)> = [1, 2, 3]
+        .iter()
+        .flat_map(|k| children.iter().map(move |c| (*c, (k * samples as u64 / 4 + 1) * STEP)))
+        .collect();
     out.push(batch("wipe of a quarter", &full, samples as u64).wipes(&wipes));
     out
 }

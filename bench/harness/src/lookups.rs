@@ -37,9 +37,8 @@ fn across(hops: usize, mut instant: impl FnMut(&mut Random) -> u64) -> Vec<Quest
 
 fn lookup(name: &str, rounds: usize, scene: &Scene, questions: &[Question]) -> Row {
     let ask = |k: usize| &questions[k % questions.len()];
-    let rust = |q: &Question| {
-        scene.registry.get_transform(&q.target_text, &q.source_text, Timestamp::from_nanos(q.instant))
-    };
+    let rust =
+        |q: &Question| scene.registry.get_transform(&q.target_text, &q.source_text, Timestamp::from_nanos(q.instant));
     for q in questions {
         for calls in [&WHOLE, &INNER] {
             assert!(same_lookup(&scene.store.get(calls, q.target, q.source, q.instant), rust(q)), "{name}");
@@ -104,9 +103,8 @@ pub fn rows(rounds: usize, rows: usize, samples: usize) -> Vec<Row> {
     out.push(lookup(&format!("lookup, frame at depth {} from its parent", rows / 2), rounds, &moving, &up));
     out.push(lookup(&format!("lookup, parent from frame at depth {}", rows / 2), rounds, &moving, &down));
 
-    let unknown: Vec<Question> = (0..QUESTIONS as u32)
-        .map(|k| Question::new(1 + k % rows as u32, 500_000 + k, STEP))
-        .collect();
+    let unknown: Vec<Question> =
+        (0..QUESTIONS as u32).map(|k| Question::new(1 + k % rows as u32, 500_000 + k, STEP)).collect();
     out.push(lookup("lookup refused with 9", rounds, &moving, &unknown));
     out.push(lookup("lookup refused with 10, hops 8", rounds, &apart, &across(8, exact)));
     out.push(lookup("lookup refused with 11, hops 8", rounds, &moving, &across(8, |_| (last + 5) * STEP)));

@@ -3,6 +3,7 @@ mod changes;
 mod lookups;
 mod measure;
 mod newcomers;
+#[rustfmt::skip] // a store is six arguments, which stand on one line
 mod ours;
 mod pass;
 mod poses;

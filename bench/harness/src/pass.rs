@@ -30,7 +30,8 @@ fn flush(store: &Store) {
 fn passed(name: &str, rounds: usize, store: &Store) -> Pass {
     // One frame twice: the pass, and then identity.
     let call = || store.get(&WHOLE, 1, 1, 0);
-    let warm = [Body::warmed(1, |_| call()), Body::warmed(1, |_| store.check()), Body::warmed(1, |_| plain_read(store))];
+    let warm =
+        [Body::warmed(1, |_| call()), Body::warmed(1, |_| store.check()), Body::warmed(1, |_| plain_read(store))];
     let [call_warm, pass_warm, read_warm] = interleaved(rounds, warm);
     let out = |_: &mut ()| flush(store);
     let cold = [

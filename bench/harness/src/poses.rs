@@ -56,7 +56,12 @@ fn float(name: &str, rounds: usize, inputs: &[f64], ours: Float, rust: Float) ->
     for &x in inputs {
         assert!(same_floats(&[ours(x)], &[rust(x)]), "{name} of {x}");
     }
-    row(name, rounds, Body::warmed(INPUTS, |k| ours(inputs[k % INPUTS])), Body::warmed(INPUTS, |k| rust(inputs[k % INPUTS])))
+    row(
+        name,
+        rounds,
+        Body::warmed(INPUTS, |k| ours(inputs[k % INPUTS])),
+        Body::warmed(INPUTS, |k| rust(inputs[k % INPUTS])),
+    )
 }
 
 fn row(name: &str, rounds: usize, ours: Body<'_>, rust: Body<'_>) -> Row {

@@ -1,7 +1,11 @@
 //! Whether the product and the Rust answer the same.
 use crate::ours::Answer;
 use crate::scene::Pose;
-use transforms::{Transform, bench, errors::RegistryError, time::{Stamp, Timestamp}};
+use transforms::{
+    Transform, bench,
+    errors::RegistryError,
+    time::{Stamp, Timestamp},
+};
 
 /// Equal in every bit, any NaN as any other.
 pub fn same_floats(ours: &[f64], rust: &[f64]) -> bool {

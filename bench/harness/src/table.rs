@@ -56,11 +56,14 @@ where no unit stands. Before measuring, both sides' answers are compared in ever
 }
 
 pub fn calls(title: &str, rows: &[Row]) -> String {
-    let mut out = format!("### {title}\n\n| call | whole | beyond the pass | the Rust | beyond the pass / Rust | whole / Rust |\n|---|---:|---:|---:|---:|---:|\n");
+    let mut out = format!(
+        "### {title}\n\n| call | whole | beyond the pass | the Rust | beyond the pass / Rust | whole / Rust |\n|---|---:|---:|---:|---:|---:|\n"
+    );
     for r in rows {
         let whole = r.whole.map_or("".into(), ns);
         let against = r.whole.map_or("".into(), |w| format!("{:.2}", w / r.rust));
-        writeln!(out, "| {} | {whole} | {} | {} | {:.2} | {against} |", r.name, ns(r.inner), ns(r.rust), r.ratio()).unwrap();
+        writeln!(out, "| {} | {whole} | {} | {} | {:.2} | {against} |", r.name, ns(r.inner), ns(r.rust), r.ratio())
+            .unwrap();
     }
     out + "\n"
 }
@@ -72,7 +75,8 @@ pub fn passes(rows: &[Pass]) -> String {
     for r in rows {
         let (warm, cold) = (r.pass_warm / r.read_warm, r.pass_cold / r.read_cold);
         let times = [r.call_warm, r.pass_warm, r.read_warm].map(ns).join(" | ");
-        writeln!(out, "| {} | {times} | {warm:.2} | {} | {} | {cold:.2} |", r.name, ns(r.pass_cold), ns(r.read_cold)).unwrap();
+        writeln!(out, "| {} | {times} | {warm:.2} | {} | {} | {cold:.2} |", r.name, ns(r.pass_cold), ns(r.read_cold))
+            .unwrap();
     }
     out + "\n"
 }

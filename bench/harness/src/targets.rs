@@ -18,7 +18,8 @@ fn pass_lines(out: &mut String, passes: &[Pass]) {
     for p in passes.iter().filter(|p| p.name.starts_with("256x1024")) {
         for (how, ratio) in [("warm", p.pass_warm / p.read_warm), ("cold", p.pass_cold / p.read_cold)] {
             let verdict = verdict(ratio <= 3.0, format!("{:.2} times", ratio / 3.0));
-            writeln!(out, "| pass at most 3 times a plain read, {}, {how} | {ratio:.2} times | {verdict} |", p.name).unwrap();
+            writeln!(out, "| pass at most 3 times a plain read, {}, {how} | {ratio:.2} times | {verdict} |", p.name)
+                .unwrap();
         }
     }
 }
@@ -54,10 +55,18 @@ pub fn table(leaves: &[Row], passes: &[Pass], stores: &[(String, Vec<Row>)]) -> 
     pass_lines(&mut out, passes);
     leaf_lines(&mut out, leaves);
     let all: usize = stores.iter().map(|(_, rows)| rows.len()).sum();
-    let slower: Vec<(&String, &Row)> =
-        stores.iter().flat_map(|(size, rows)| rows.iter().map(move |r| (size, r))).filter(|(_, r)| r.ratio() > 1.0).collect();
+    let slower: Vec<(&String, &Row)> = stores
+        .iter()
+        .flat_map(|(size, rows)| rows.iter().map(move |r| (size, r)))
+        .filter(|(_, r)| r.ratio() > 1.0)
+        .collect();
     let met = all - slower.len();
-    writeln!(out, "| beyond the pass not slower than the Rust | {met} of {all} rows | {} |", if slower.is_empty() { "met" } else { "missed by those below" }).unwrap();
+    writeln!(
+        out,
+        "| beyond the pass not slower than the Rust | {met} of {all} rows | {} |",
+        if slower.is_empty() { "met" } else { "missed by those below" }
+    )
+    .unwrap();
     for (size, r) in slower {
         writeln!(out, "| {size}, {} | {:.2} times | missed by {:.2} |", r.name, r.ratio(), r.ratio() - 1.0).unwrap();
     }
