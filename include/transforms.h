@@ -1,0 +1,142 @@
+/*
+ * Tinhvok: a tree of frames with timed poses, over memory that the caller lends.
+ *
+ * Every function here is proved, for every input, to answer as its definition says
+ * (crates/transforms_c/specs, crates/tree/specs). Each call ends. A call that refuses leaves all lent
+ * memory as it was. Nothing is kept between calls: no heap, no global state, no locks. Two threads may
+ * read one store at once; a call that writes needs the store to itself.
+ *
+ * Link with libtransforms_c.a; no other library and no flag is needed (x86-64, System V calls).
+ *
+ * Units and order
+ *   instants, ages   nanoseconds, 64 bits unsigned, from any origin that the caller keeps to
+ *   translations     any unit, the same for all poses: x, y, z
+ *   rotations        unit quaternions: w, x, y, z
+ *   frames           numbers of 32 bits
+ *
+ * A store is three arrays of the caller's. With E rows (a row for each frame that has a parent) and S
+ * samples a row, E from 1 to 256 and S from 1 to 1,024, they have
+ *   head       5 + 4*E       words of 64 bits
+ *   instants   E*S           words of 64 bits
+ *   poses      7*E*S         doubles
+ * exactly, and transforms_head_len, transforms_instants_len and transforms_poses_len give these lengths.
+ * The words may be copied, saved and restored as bytes; they hold no pointer. Do not write into them:
+ * a store that breaks a rule of its layout is refused with 2 and never read beyond its ends.
+ *
+ * What the caller must not do
+ *   - lend slices that overlap each other, in one call
+ *   - pass a null pointer with a length above 0, or a length beyond the memory that is there
+ *   - let another thread write a store while a call reads or writes it
+ * All else is answered or refused.
+ */
+#ifndef TRANSFORMS_H
+#define TRANSFORMS_H
+
+#include <stddef.h>
+#include <stdint.h>
+
+#ifdef __cplusplus
+extern "C" {
+#endif
+
+typedef struct {
+    double x, y, z;
+} transforms_vector3;
+
+typedef struct {
+    double w, x, y, z;
+} transforms_quaternion;
+
+/* A pose: where a frame lies, seen from another. */
+typedef struct {
+    transforms_vector3 translation;
+    transforms_quaternion rotation;
+} transforms_isometry;
+
+/* The numbers of the refusals. */
+enum {
+    TRANSFORMS_DONE = 0,                        /* answered */
+    TRANSFORMS_SIZES = 1,                       /* E, S or a slice's length is wrong */
+    TRANSFORMS_UNSOUND_STORE = 2,               /* the lent words break a rule of the store */
+    TRANSFORMS_NON_FINITE_VALUES = 3,           /* a component of an added pose, or an inverse's translation */
+    TRANSFORMS_NON_UNIT_ROTATION = 4,           /* the rotation's norm differs from 1 by more than 1e-6: `norm` */
+    TRANSFORMS_SELF_REFERENTIAL_FRAME = 5,      /* parent equals child */
+    TRANSFORMS_REPARENTING_NOT_SUPPORTED = 6,   /* the child is held under another parent: `frame` */
+    TRANSFORMS_CYCLE_DETECTED = 7,              /* the new child is already above its parent */
+    TRANSFORMS_STATIC_DYNAMIC_CONFLICT = 8,     /* static for a moving child, or the reverse */
+    TRANSFORMS_UNKNOWN_FRAME = 9,               /* neither child nor parent (remove_before: not a child): `frame` */
+    TRANSFORMS_DISCONNECTED = 10,               /* both frames are known, but no path joins them */
+    TRANSFORMS_NOT_FOUND_AT = 11,               /* a hop has no pose at the instant: its child `frame`, its range */
+    TRANSFORMS_NO_COMMON_TIME = 12,             /* no instant is served by every hop: the `frame` to blame, its range */
+    TRANSFORMS_NON_FINITE = 13,                 /* inverse */
+    TRANSFORMS_ZERO_LENGTH_NORMALIZATION = 14,  /* inverse, norm below 2^-52 */
+    TRANSFORMS_DURATION_UNDERFLOW = 15,         /* interpolation: end, else query, before start */
+    TRANSFORMS_TREE_FULL = 16,                  /* a new child, and all E rows are used */
+    TRANSFORMS_ROW_FULL = 17                    /* more than S samples would remain after expiry */
+};
+
+/* An answer, by value. A field that the call's answer or refusal does not carry is 0. */
+typedef struct {
+    uint32_t number;          /* 0, or the number of the refusal */
+    uint32_t frame;           /* with 6, 9, 11 and 12 */
+    uint32_t has_range;       /* with 11 and 12: 1 if the frame named holds a sample */
+    uint32_t is_static;       /* latest_common_time: 1 if every hop is static, so any instant will do */
+    uint64_t start;           /* with has_range: its first instant */
+    uint64_t end;             /* with has_range: its last instant */
+    double norm;              /* with 4 */
+    uint64_t instant;         /* latest_common_time: the instant, unless is_static */
+    transforms_isometry pose; /* get_transform, inverse, interpolate, validate */
+} transforms_answer;
+
+/* The three lengths for E rows of S samples; 0 where E or S is out of bounds. */
+size_t transforms_head_len(uint64_t rows);
+size_t transforms_instants_len(uint64_t rows, uint64_t samples);
+size_t transforms_poses_len(uint64_t rows, uint64_t samples);
+
+/* Overwrites the three slices with an empty store of these sizes. With has_max_age not 0, a moving frame
+ * keeps only samples that are at most max_age older than its newest. Refuses: 1. */
+transforms_answer transforms_open(
+    uint64_t *head, size_t head_len, uint64_t *instants, size_t instants_len, double *poses, size_t poses_len,
+    uint64_t rows, uint64_t samples, uint32_t has_max_age, uint64_t max_age);
+
+/* Adds the child's pose seen from its parent: for ever where is_static is not 0 (a second addition
+ * replaces it), else at the instant, in any order of instants. Refuses: 1, 2, 7, 3, 4, 5, 6, 8, 16, 17,
+ * the first that is due. */
+transforms_answer transforms_add_transform(
+    uint64_t *head, size_t head_len, uint64_t *instants, size_t instants_len, double *poses, size_t poses_len,
+    uint32_t child, uint32_t parent, uint32_t is_static, uint64_t instant, transforms_isometry pose);
+
+/* The source's pose seen from the target at the instant; between two samples it is interpolated.
+ * Refuses: 1, 2, 9 (the target first), 11, 10, 13, 14, 3. */
+transforms_answer transforms_get_transform(
+    const uint64_t *head, size_t head_len, const uint64_t *instants, size_t instants_len,
+    const double *poses, size_t poses_len, uint32_t target, uint32_t source, uint64_t instant);
+
+/* The latest instant at which every moving hop between the two frames has a pose. Refuses: 1, 2, 9, 10, 12. */
+transforms_answer transforms_latest_common_time(
+    const uint64_t *head, size_t head_len, const uint64_t *instants, size_t instants_len,
+    const double *poses, size_t poses_len, uint32_t target, uint32_t source);
+
+/* Drops a moving child's samples before the instant. Refuses: 1, 2, 9. */
+transforms_answer transforms_remove_before(
+    uint64_t *head, size_t head_len, uint64_t *instants, size_t instants_len, double *poses, size_t poses_len,
+    uint32_t child, uint64_t instant);
+
+/* The product: b, given in a's frame, seen from a's parent. Never refuses. */
+transforms_isometry transforms_mul(transforms_isometry a, transforms_isometry b);
+
+/* Refuses: 13, 14, 3. */
+transforms_answer transforms_inverse(transforms_isometry pose);
+
+/* The pose at `query` between `a` at `start` and `b` at `end`. Where start equals end it is `a`. Refuses: 15. */
+transforms_answer transforms_interpolate(
+    transforms_isometry a, transforms_isometry b, uint64_t start, uint64_t end, uint64_t query);
+
+/* The pose itself, if its components are finite and its rotation is a unit within 1e-6. Refuses: 3, 4. */
+transforms_answer transforms_validate(transforms_isometry pose);
+
+#ifdef __cplusplus
+}
+#endif
+
+#endif
