@@ -1,7 +1,7 @@
 -- What an addition leaves in a sound store: the refusal of its tests and every word as it was, a held child's row grown, or a new child's row put in.
 use Prim.Native.Nat.{ℕ, suc, _+_, _*_, _≤_, _<_}
 use mathlib.Core.Path.{_≡_, refl, sym, ap, subst, _∙_}
-use mathlib.Core.Bool.{Bool, true, false}
+use mathlib.Core.Bool.{Bool, false}
 use mathlib.Core.Option.{Option, none, some}
 use mathlib.Core.List.{[], _∷_, _++_}
 use native.Mathlib.Nat.{suc-mul, mul-le-mul-right}
@@ -24,10 +24,10 @@ use Rattle.buffer.proofs.Maps.{Rising, rising-is, rising-put, put-again, length
 use Rattle.buffer.proofs.SampleLaws.{insert-empty}
 use Rattle.tree.specs.declared.answer.Answer.{Answer}
 use Rattle.tree.specs.Tree.{Edge, Tree, Limits, Addition, kindOf, instantOf, grown, add}
-use Rattle.tree.specs.Store.{Store, rowWords, encode, rowsIn, placesIn, usedIn, rowAt, treeOf, limitsOf, sized}
+use Rattle.tree.specs.Store.{Store, rowWords, encode, rowsIn, placesIn, usedIn, rowAt, treeOf, limitsOf}
 use Rattle.tree.specs.Sound.{sound}
 use Rattle.tree.specs.Answers.{done, replyOf}
-use Rattle.tree.specs.Calls.{outcome, storeOf, written, onTree, addOf}
+use Rattle.tree.specs.Calls.{outcome, storeOf, written}
 use Rattle.storage.specs.Rows.{IsRow, IsAbsent}
 use Rattle.adding.specs.NewRow.{RowRoom, emptyRow, rowInserted, withRow}
 use Rattle.storage.specs.Checks.{RowPart, SoundStore}
@@ -64,20 +64,6 @@ module _ (L : Limits) (t : Tree) (a : Addition) (held : Option Edge) (q : get t 
 
   add-after : answer done ≡ admits L t a held (answer done) → add L t a ≡ after L t a held
   add-after d = add-is ∙ passed (admits-decides L t a held (after L t a held)) d
-
--- 1, 2, and then the call on the tree
-module _ (s : Store) (a : Addition) where
-  pub sizes-refused : sized s ≡ false → outcome (refusal 1 nothing) (s .head) (s .instants) (s .poses) ≡ addOf s a
-  unfolding addOf onTree
-  sizes-refused z = rw z
-
-  pub rules-refused : sized s ≡ true → sound s ≡ false → outcome (refusal 2 nothing) (s .head) (s .instants) (s .poses) ≡ addOf s a
-  unfolding addOf onTree
-  rules-refused z k = rw (z, k)
-
-  pub sound-added : SoundStore s → written s (limitsOf s) (add (limitsOf s) (treeOf s) a) ≡ addOf s a
-  unfolding addOf onTree
-  sound-added ok = rw (ok .sizes, ok .rules)
 
 -- ---- a held child
 

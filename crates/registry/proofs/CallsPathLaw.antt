@@ -9,6 +9,7 @@ use Rattle.tree.specs.Store.{Store, encode, treeOf, limitsOf, sized}
 use Rattle.tree.specs.Sound.{sound}
 use Rattle.tree.specs.Answers.{done}
 use Rattle.tree.specs.Calls.{onTree, addOf, wipeOf, lookupOf, commonTimeOf}
+use Rattle.storage.specs.declared.check.Checked.the-variants.{Sound}
 use Rattle.storage.specs.Checks.{SoundStore}
 use Rattle.tree.specs.History.{isAnswer}
 use Rattle.tree.specs.Laws.{InRange, SoundTree}
@@ -22,7 +23,7 @@ use Rattle.tree.proofs.SizeLaws.{sized-is}
 use Rattle.tree.proofs.Rules.{sound-is}
 use Rattle.tree.proofs.SoundIsEncoded.{sound-tree}
 use Rattle.tree.proofs.EncodedIsSound.{encodedIsSound}
-use Rattle.storage.proofs.Called.{call-sound}
+use Rattle.storage.proofs.Called.{called}
 use Rattle.tree.proofs.AddKeepsSound.{addKeepsSound}
 use Rattle.tree.proofs.WipeKeepsSound.{wipeKeepsSound}
 use Rattle.tree.proofs.PathLaw.{pathLaw, pathLawWipe}
@@ -49,14 +50,14 @@ module _ (s : Store) (h : SoundStore s) where
   asked-encoded u k ask =
       let L = limitsOf s in
       let e = encodedIsSound L u range k in
-      call-sound (encode L u) (λ L t. ask t) (record { sizes = e .0; rules = e .1 })
+      sym (called (encode L u) (λ L t. ask t) Sound (record { sizes = e .0; rules = e .1 }))
       ∙ ap ask (tree-back L u (sound-fits L u (range .somePlaces) k))
 
   same-replies : (u : Tree) → SoundTree (limitsOf s) u → (f g : ℕ) → SameAnswers (treeOf s) u f g → SameReplies s (encode (limitsOf s) u) f g
   unfolding lookupOf commonTimeOf
   same-replies u k f g same = record {
-    lookups = λ i. asked-encoded u k (λ t. lookup t f g i) ∙ same .lookups i ∙ sym (call-sound s (λ L t. lookup t f g i) h);
-    commonTimes = asked-encoded u k (λ t. commonTime t f g) ∙ same .commonTimes ∙ sym (call-sound s (λ L t. commonTime t f g) h);
+    lookups = λ i. asked-encoded u k (λ t. lookup t f g i) ∙ same .lookups i ∙ called s (λ L t. lookup t f g i) Sound h;
+    commonTimes = asked-encoded u k (λ t. commonTime t f g) ∙ same .commonTimes ∙ called s (λ L t. commonTime t f g) Sound h;
   }
 
 -- a call that is answered with done leaves the words of the tree that it answers

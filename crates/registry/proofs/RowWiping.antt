@@ -1,14 +1,13 @@
 -- What a wipe leaves: every word as it was, or the words of the tree with one row wiped.
 use Prim.Native.Nat.{ℕ, _+_, _*_, _≤_, _<_}
 use mathlib.Core.Path.{_≡_, refl, sym, ap, _∙_}
-use mathlib.Core.Bool.{true, false}
 use mathlib.Core.List.{List}
 use mathlib.Core.Option.{none, some}
 use native.Mathlib.Omega.{arith}
 use lib.Ieee.{Float}
 use lib.ListN.{length, set}
 use borrow.Rule.Slice.PartMut.{putMid}
-use Rattle.time.specs.Reply.{answer, refusal, nothing, frame}
+use Rattle.time.specs.Reply.{answer, refusal, frame}
 use Rattle.buffer.specs.declared.kind.Kind.{Kind}
 use Rattle.buffer.specs.Map.{get, put}
 use Rattle.buffer.specs.Samples.{Samples, removeBefore}
@@ -18,13 +17,14 @@ use Rattle.buffer.proofs.Maps.{rising-is}
 use Rattle.buffer.proofs.RowBack.{length-samplesOf}
 use Rattle.buffer.proofs.SampleLaws.{length-removeBefore-le}
 use Rattle.tree.specs.Tree.{Edge, wiped, wipe}
-use Rattle.tree.specs.Store.{Store, encode, placesIn, usedIn, kindOfWord, rowWord, rowInstants, rowPoses, rowAt, treeOf, limitsOf, sized}
+use Rattle.tree.specs.Store.{Store, encode, placesIn, usedIn, kindOfWord, rowWord, rowInstants, rowPoses, rowAt, treeOf, limitsOf}
 use Rattle.tree.specs.Sound.{sound}
 use Rattle.tree.specs.Answers.{done}
 use Rattle.tree.specs.Calls.{outcome, written, wipeOf}
+use Rattle.storage.specs.declared.check.Checked.the-variants.{Sound}
 use Rattle.storage.specs.Rows.{IsAbsent}
 use Rattle.storage.specs.Checks.{SoundStore}
-use Rattle.storage.proofs.Called.{call-sizes, call-unsound, call-sound}
+use Rattle.storage.proofs.Called.{called}
 use Rattle.tree.proofs.StoreRows.{instants-long}
 use Rattle.tree.proofs.SizeLaws.{sized-is}
 use Rattle.tree.proofs.Rules.{sound-is}
@@ -33,33 +33,24 @@ use Rattle.adding.proofs.EncodedRows.{sound-held}
 use Rattle.storage.proofs.TreeRows.{get-found, get-absent}
 use Rattle.storage.proofs.RowHolding.{first, wide, sevens, lentInstants, lentPoses, instants-lent, poses-lent, row-holding}
 
--- ---- refusals 1, 2 and 9
+-- ---- refusal 9
 
-module _ (s : Store) (f i : ℕ) where
-  pub wipe-sizes : sized s ≡ false → outcome (refusal 1 nothing) (s .head) (s .instants) (s .poses) ≡ wipeOf s f i
-  unfolding wipeOf
-  wipe-sizes e = sym (ap (written s (limitsOf s)) (call-sizes s (λ L t. wipe t f i) e))
+module _ (s : Store) (f i : ℕ) (h : SoundStore s) where
+  wipe-none : get (treeOf s) f ≡ none → outcome (refusal 9 (frame f)) (s .head) (s .instants) (s .poses) ≡ wipeOf s f i
+  unfolding wipeOf wipe
+  wipe-none q = ap (written s (limitsOf s)) (ap (wiped f i (treeOf s)) (sym q) ∙ called s (λ L t. wipe t f i) Sound h)
 
-  pub wipe-unsound : sized s ≡ true → sound s ≡ false → outcome (refusal 2 nothing) (s .head) (s .instants) (s .poses) ≡ wipeOf s f i
-  unfolding wipeOf
-  wipe-unsound e g = sym (ap (written s (limitsOf s)) (call-unsound s (λ L t. wipe t f i) e g))
+  wipe-some : (e : Edge) → get (treeOf s) f ≡ some e
+      → record {
+        reply = answer done;
+        store = encode (limitsOf s) (put f (record { parent = e .parent; kind = e .kind; samples = removeBefore (e .kind) i (e .samples) }) (treeOf s));
+      }
+      ≡ wipeOf s f i
+  unfolding wipeOf wipe
+  wipe-some e q = ap (written s (limitsOf s)) (ap (wiped f i (treeOf s)) (sym q) ∙ called s (λ L t. wipe t f i) Sound h)
 
-  module _ (h : SoundStore s) where
-    wipe-none : get (treeOf s) f ≡ none → outcome (refusal 9 (frame f)) (s .head) (s .instants) (s .poses) ≡ wipeOf s f i
-    unfolding wipeOf wipe
-    wipe-none q = sym (ap (written s (limitsOf s)) (call-sound s (λ L t. wipe t f i) h ∙ ap (wiped f i (treeOf s)) q))
-
-    wipe-some : (e : Edge) → get (treeOf s) f ≡ some e
-        → record {
-          reply = answer done;
-          store = encode (limitsOf s) (put f (record { parent = e .parent; kind = e .kind; samples = removeBefore (e .kind) i (e .samples) }) (treeOf s));
-        }
-        ≡ wipeOf s f i
-    unfolding wipeOf wipe
-    wipe-some e q = sym (ap (written s (limitsOf s)) (call-sound s (λ L t. wipe t f i) h ∙ ap (wiped f i (treeOf s)) q))
-
-    pub wipe-absent : (k : ℕ) → IsAbsent (usedIn s) (s .head) f k → outcome (refusal 9 (frame f)) (s .head) (s .instants) (s .poses) ≡ wipeOf s f i
-    wipe-absent k absent = wipe-none (get-absent s (usedIn s) refl f k absent)
+  pub wipe-absent : (k : ℕ) → IsAbsent (usedIn s) (s .head) f k → outcome (refusal 9 (frame f)) (s .head) (s .instants) (s .poses) ≡ wipeOf s f i
+  wipe-absent k absent = wipe-none (get-absent s (usedIn s) refl f k absent)
 
 -- ---- row r of a sound store, by what the row layer leaves in its parts
 

@@ -1,22 +1,26 @@
 -- What the tests of 1 and 2 make of a call on a store that is lent.
-use mathlib.Core.Path.{_≡_}
-use mathlib.Core.Bool.{true, false}
+use mathlib.Core.Path.{_≡_, sym, ap}
 use Rattle.time.specs.Reply.{Reply, refusal, nothing}
 use Rattle.tree.specs.Tree.{Tree, Limits}
-use Rattle.tree.specs.Store.{Store, limitsOf, treeOf, sized}
-use Rattle.tree.specs.Sound.{sound}
-use Rattle.tree.specs.Calls.{onTree}
-use Rattle.storage.specs.Checks.{SoundStore}
+use Rattle.tree.specs.Store.{Store, limitsOf, treeOf}
+use Rattle.tree.specs.Calls.{onTree, written}
+use Rattle.storage.specs.declared.check.Checked.{Checked}
+use Rattle.storage.specs.declared.check.Checked.the-variants.{Sizes, UnsoundStore, Sound}
+use Rattle.storage.specs.Checks.{Checks}
 
-module _ {A : Type 0} (s : Store) (call : Limits → Tree → Reply A) where
-  pub call-sizes : sized s ≡ false → onTree s call ≡ refusal 1 nothing
-  unfolding onTree
-  call-sizes e = rw e
+-- the reply by what the tests found, r where they found nothing
+abbrev pub calledBy : {A : Type 0} → Checked → Reply A → Reply A
+calledBy Sizes r = refusal 1 nothing
+calledBy UnsoundStore r = refusal 2 nothing
+calledBy Sound r = r
 
-  pub call-unsound : sized s ≡ true → sound s ≡ false → onTree s call ≡ refusal 2 nothing
-  unfolding onTree
-  call-unsound e f = rw (e, f)
+pub called : {A : Type 0} (s : Store) (call : Limits → Tree → Reply A) (k : Checked) → Checks s k → calledBy k (call (limitsOf s) (treeOf s)) ≡ onTree s call
+unfolding onTree
+called s call Sizes e = sym (rw e)
+called s call UnsoundStore e = sym (rw (e .0, e .1))
+called s call Sound h = sym (rw (h .sizes, h .rules))
 
-  pub call-sound : SoundStore s → onTree s call ≡ call (limitsOf s) (treeOf s)
-  unfolding onTree
-  call-sound h = rw (h .sizes, h .rules)
+-- and the words that it leaves
+pub written-called : (s : Store) (call : Limits → Tree → Reply Tree) (k : Checked) → Checks s k
+    → written s (limitsOf s) (calledBy k (call (limitsOf s) (treeOf s))) ≡ written s (limitsOf s) (onTree s call)
+written-called s call k h = ap (written s (limitsOf s)) (called s call k h)

@@ -3,23 +3,25 @@ use mathlib.Core.Path.{subst, _∙_}
 use native.Mathlib.Omega.{arith}
 use lib.ListN.{getD}
 use borrow.Author.Needs.{needs}
+use Rattle.time.specs.Reply.{Reply}
 use Rattle.tree.specs.Store.{Store}
-use Rattle.tree.specs.Tree.{Addition}
-use Rattle.tree.specs.Calls.{storeOf}
+use Rattle.tree.specs.Tree.{Tree, Limits, add}
+use Rattle.tree.specs.Calls.{storeOf, addOf}
+use Rattle.storage.specs.declared.check.Checked.the-variants.{Sizes, UnsoundStore, Sound}
 use Rattle.storage.specs.Rows.{Finds}
 use Rattle.storage.specs.Checks.{SoundStore, Checks}
 use Rattle.adding.specs.Adding.{addition}
 use Rattle.storage.proofs.SoundStore.{sound-rows}
 use Rattle.storage.proofs.Checking.{checked-sound}
-use Rattle.adding.proofs.AddWritten.{sizes-refused, rules-refused, sound-added}
+use Rattle.storage.proofs.Called.{written-called}
 use Rattle.adding.proofs.add.add_transform.Statement.{statement}
 use Rattle.adding.proofs.add.add_transform.Tie as tie
 
 abbrev store : tie.Start → Store
 store s = storeOf (s .args .head .now) (s .args .instants .now) (s .args .poses .now)
 
-abbrev added : tie.Start → Addition
-added s = addition (s .args .child) (s .args .parent) (s .args .stamp) (s .args .pose)
+abbrev asked : tie.Start → Limits → Tree → Reply Tree
+asked s L t = add L t (addition (s .args .child) (s .args .parent) (s .args .stamp) (s .args .pose))
 
 -- past 1 and 2
 abbrev start : tie.After-slice-known4 → tie.Start
@@ -46,10 +48,11 @@ same-length-3 : tie.Need-same-length-3
 same-length-3 c = search needs
 
 returns : tie.Need-returns
+unfolding addOf
 returns c =
     let k = c .before .before in
     let s = k .before .before .before .before .before .before .before in
-    sizes-refused (store s) (added s) (subst (Checks (store s)) (c .enum-told .given .1) (k .check .ensures))
+    written-called (store s) (asked s) Sizes (subst (Checks (store s)) (c .enum-told .given .1) (k .check .ensures))
 
 enum-told-2 : tie.Need-enum-told-2
 enum-told-2 c = search needs
@@ -64,11 +67,11 @@ same-length-6 : tie.Need-same-length-6
 same-length-6 c = search needs
 
 returns-2 : tie.Need-returns-2
+unfolding addOf
 returns-2 c =
     let k = c .before .before .before in
     let s = k .before .before .before .before .before .before .before in
-    let z = subst (Checks (store s)) (c .enum-told2 .given .1) (k .check .ensures) in
-    rules-refused (store s) (added s) (z .0) (z .1)
+    written-called (store s) (asked s) UnsoundStore (subst (Checks (store s)) (c .enum-told2 .given .1) (k .check .ensures))
 
 slice-read-used : tie.Need-slice-read-used
 slice-read-used c = omega (arith, sound-rows (store (start c)) (is-sound c) .rows .within)
@@ -108,10 +111,11 @@ same-length-9 : tie.Need-same-length-9
 same-length-9 c = search needs
 
 returns-3 : tie.Need-returns-3
+unfolding addOf
 returns-3 c =
     let d = c .before .before .before .before .before .before in
     let b = d .before .before .before .before .before .before .before .before .before in
-    d .add-held .ensures ∙ sound-added (store (start b)) (added (start b)) (is-sound b)
+    d .add-held .ensures ∙ written-called (store (start b)) (asked (start b)) Sound (is-sound b)
 
 same-length-10 : tie.Need-same-length-10
 same-length-10 c = search needs
@@ -123,10 +127,11 @@ same-length-12 : tie.Need-same-length-12
 same-length-12 c = search needs
 
 returns-4 : tie.Need-returns-4
+unfolding addOf
 returns-4 c =
     let d = c .before .before .before .before .before .before in
     let b = d .before .before .before .before .before .before .before .before .before in
-    d .add-new .ensures ∙ sound-added (store (start b)) (added (start b)) (is-sound b)
+    d .add-new .ensures ∙ written-called (store (start b)) (asked (start b)) Sound (is-sound b)
 
 pub add-transform-spec : {M : Type 1} → statement M
 add-transform-spec =

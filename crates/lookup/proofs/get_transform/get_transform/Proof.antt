@@ -1,15 +1,16 @@
 -- `lookup::get_transform::get_transform` meets its contract: 1, 2, or the lookup in a store that is sized and sound.
-use mathlib.Core.Path.{_≡_, sym, subst, _∙_}
+use mathlib.Core.Path.{_≡_, subst, _∙_}
 use borrow.Author.Needs.{needs}
 use Rattle.time.specs.Reply.{Reply}
 use Rattle.storage.specs.declared.check.Checked.{Checked}
+use Rattle.storage.specs.declared.check.Checked.the-variants.{Sizes, UnsoundStore, Sound}
 use Rattle.tree.specs.Tree.{Tree, Limits}
 use Rattle.tree.specs.Store.{Store}
 use Rattle.tree.specs.Answers.{Value}
 use Rattle.tree.specs.Calls.{storeOf, lookupOf}
 use Rattle.storage.specs.Checks.{Checks}
 use Rattle.tree.specs.Path.{lookup}
-use Rattle.storage.proofs.Called.{call-sizes, call-unsound, call-sound}
+use Rattle.storage.proofs.Called.{called}
 use Rattle.lookup.proofs.get_transform.get_transform.Statement.{statement}
 use Rattle.lookup.proofs.get_transform.get_transform.Tie as tie
 
@@ -45,22 +46,21 @@ unfolding lookupOf
 returns c =
     let k = c .before .before in
     let s = start k in
-    sym (call-sizes (store s) (asked s) (checked k _ (c .enum-told .given .1)))
+    called (store s) (asked s) Sizes (checked k _ (c .enum-told .given .1))
 
 returns-2 : tie.Need-returns-2
 unfolding lookupOf
 returns-2 c =
     let k = c .before .before in
     let s = start k in
-    let e = checked k _ (c .enum-told2 .given .1) in
-    sym (call-unsound (store s) (asked s) (e .0) (e .1))
+    called (store s) (asked s) UnsoundStore (checked k _ (c .enum-told2 .given .1))
 
 returns-3 : tie.Need-returns-3
 unfolding lookupOf
 returns-3 c =
     let k = c .before .before .before in
     let s = start k in
-    c .resolve .ensures ∙ sym (call-sound (store s) (asked s) (checked k _ (c .before .enum-told3 .given .1)))
+    c .resolve .ensures ∙ called (store s) (asked s) Sound (checked k _ (c .before .enum-told3 .given .1))
 
 pub get-transform-spec : {M : Type 1} → statement M
 get-transform-spec =

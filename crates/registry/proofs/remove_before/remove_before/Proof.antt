@@ -2,10 +2,12 @@
 use mathlib.Core.Path.{_≡_, subst}
 use borrow.Author.Needs.{needs}
 use Rattle.storage.specs.declared.check.Checked.{Checked}
+use Rattle.storage.specs.declared.check.Checked.the-variants.{Sizes, UnsoundStore}
 use Rattle.tree.specs.Store.{Store}
-use Rattle.tree.specs.Calls.{storeOf}
+use Rattle.tree.specs.Tree.{wipe}
+use Rattle.tree.specs.Calls.{storeOf, wipeOf}
 use Rattle.storage.specs.Checks.{Checks}
-use Rattle.registry.proofs.RowWiping.{wipe-sizes, wipe-unsound}
+use Rattle.storage.proofs.Called.{written-called}
 use Rattle.registry.proofs.remove_before.remove_before.Statement.{statement}
 use Rattle.registry.proofs.remove_before.remove_before.Tie as tie
 
@@ -43,10 +45,11 @@ same-length-3 : tie.Need-same-length-3
 same-length-3 c = search needs
 
 returns : tie.Need-returns
+unfolding wipeOf
 returns c =
     let k = c .before .before in
     let s = start k in
-    wipe-sizes (store s) (s .args .child) (s .args .t) (checked k _ (c .enum-told .given .1))
+    written-called (store s) (λ L t. wipe t (s .args .child) (s .args .t)) Sizes (checked k _ (c .enum-told .given .1))
 
 same-length-4 : tie.Need-same-length-4
 same-length-4 c = search needs
@@ -58,11 +61,11 @@ same-length-6 : tie.Need-same-length-6
 same-length-6 c = search needs
 
 returns-2 : tie.Need-returns-2
+unfolding wipeOf
 returns-2 c =
     let k = c .before .before in
     let s = start k in
-    let e = checked k _ (c .enum-told2 .given .1) in
-    wipe-unsound (store s) (s .args .child) (s .args .t) (e .0) (e .1)
+    written-called (store s) (λ L t. wipe t (s .args .child) (s .args .t)) UnsoundStore (checked k _ (c .enum-told2 .given .1))
 
 same-length-7 : tie.Need-same-length-7
 same-length-7 c = search needs
