@@ -4,6 +4,6 @@ pub mod float;
 pub mod isometry;
 pub mod libm;
 pub mod quaternion;
-pub mod terms;
+mod terms;
 pub mod transform;
 pub mod vector3;
