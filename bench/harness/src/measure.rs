@@ -1,4 +1,4 @@
-//! Medians of interleaved rounds.
+//! Interleaved rounds, and their lower quartiles: other work on the machine makes a batch longer, never shorter.
 use std::hint::black_box;
 use std::time::{Duration, Instant};
 
@@ -71,15 +71,15 @@ fn long_enough(batch: &mut impl FnMut(usize) -> Duration, first: usize) -> usize
 /// What reading the clock twice costs.
 fn clock() -> f64 {
     let mut spans: Vec<f64> = (0..1001).map(|_| Instant::now().elapsed().as_nanos() as f64).collect();
-    median(&mut spans)
+    quartile(&mut spans)
 }
 
-fn median(values: &mut [f64]) -> f64 {
+fn quartile(values: &mut [f64]) -> f64 {
     values.sort_by(f64::total_cmp);
-    values[values.len() / 2]
+    values[values.len() / 4]
 }
 
-/// Nanoseconds a call of each body: the median of so many rounds, in each of which every body runs once.
+/// Nanoseconds a call of each body: the lower quartile of so many rounds, in each of which every body runs once.
 pub fn interleaved<const N: usize>(rounds: usize, mut bodies: [Body<'_>; N]) -> [f64; N] {
     let clock = clock();
     let mut times: [Vec<f64>; N] = std::array::from_fn(|_| Vec::with_capacity(rounds));
@@ -91,5 +91,5 @@ pub fn interleaved<const N: usize>(rounds: usize, mut bodies: [Body<'_>; N]) -> 
             }
         }
     }
-    times.map(|mut times| median(&mut times))
+    times.map(|mut times| quartile(&mut times))
 }

@@ -42,7 +42,7 @@ pub fn ns(time: f64) -> String {
 /// What the figures are.
 pub fn legend(rounds: usize) -> String {
     format!(
-        "Medians of {rounds} rounds, in each of which ours and the Rust's run in turn on the same inputs; nanoseconds a call
+        "Lower quartiles of {rounds} rounds, in each of which ours and the Rust's run in turn on the same inputs; nanoseconds a call
 where no unit stands. Before measuring, both sides' answers are compared in every bit.
 
 - *whole*: the call through libtransforms_c.a, measured directly.
