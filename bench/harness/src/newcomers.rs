@@ -2,9 +2,11 @@
 //! that the test for a circle climbs, so that neither finds it out of the caches.
 use crate::measure::{Body, interleaved};
 use crate::ours::{Calls, INNER, Store, WHOLE};
+use crate::same::same_lookup;
 use crate::scene::{Addition, Random, STEP, Scene};
 use crate::table::Row;
 use std::hint::black_box;
+use transforms::time::Timestamp;
 
 const ROOT: u32 = 9;
 
@@ -20,7 +22,19 @@ fn chain(rows: usize, samples: usize) -> Scene {
     scene
 }
 
+/// Both sides take the frame, and answer the same for it.
+fn assert_same(name: &str, scene: &Scene, addition: &Addition) {
+    let (mut whole, mut inner, mut registry) = (scene.store.clone(), scene.store.clone(), scene.registry.copy());
+    assert!(whole.add(&WHOLE, addition).number == 0 && inner.add(&INNER, addition).number == 0, "{name}");
+    assert!(registry.add_transform(addition.transform()).is_ok(), "{name}");
+    assert!(whole == inner && inner.check() == 0, "{name}");
+    let (root, child) = (ROOT.to_string(), addition.child.to_string());
+    let rust = registry.get_transform(&root, &child, Timestamp::from_nanos(STEP));
+    assert!(same_lookup(&inner.get(&INNER, ROOT, addition.child, STEP), rust), "{name}");
+}
+
 fn newcomer(name: &str, rounds: usize, scene: &Scene, addition: &Addition) -> Row {
+    assert_same(name, scene, addition);
     let ours = |calls: &'static Calls| {
         let again = |s: &mut Store| {
             s.refresh_all(&scene.store);

@@ -19,6 +19,11 @@ impl Row {
     pub fn ratio(&self) -> f64 {
         self.inner / self.rust
     }
+
+    /// To the two digits that are printed.
+    pub fn above_one(&self) -> bool {
+        (100.0 * self.ratio()).round() > 100.0
+    }
 }
 
 /// Nanoseconds a pass and a plain read.

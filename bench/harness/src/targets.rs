@@ -58,7 +58,7 @@ pub fn table(leaves: &[Row], passes: &[Pass], stores: &[(String, Vec<Row>)]) -> 
     let slower: Vec<(&String, &Row)> = stores
         .iter()
         .flat_map(|(size, rows)| rows.iter().map(move |r| (size, r)))
-        .filter(|(_, r)| r.ratio() > 1.0)
+        .filter(|(_, r)| r.above_one())
         .collect();
     let met = all - slower.len();
     writeln!(
