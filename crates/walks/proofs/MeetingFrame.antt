@@ -18,7 +18,7 @@ use Rattle.tree.specs.Path.{Hop, chain, until, any, side, connected, hops}
 use Rattle.storage.specs.Rows.{RisingRows}
 use Rattle.walks.specs.Walks.{OfTree, hopsTo, AreTops}
 use Rattle.tree.proofs.Climbing.{edge-or, Grounded, grounded-ranked, above-lower}
-use Rattle.tree.proofs.Ancestors.{ancestors-none, ancestors-some}
+use Rattle.tree.proofs.Ancestors.{ancestors-none, ancestors-some, climb-ind}
 use Rattle.tree.proofs.Paths.{connected-sym, side-same}
 use Rattle.walks.proofs.SideHops.{chain-up, hops-end, hops-up, grounded}
 
@@ -117,6 +117,21 @@ module _ (t : Tree) (gr : Grounded t) where
       sides : hopsTo t f f ≡ hops t (side t f f)
       sides = hops-end t f ∙ sym (ap (hops t) (side-same t f))
 
+  -- g is above f: the climb from f ends at g
+  pub reached-above : (g f : ℕ) → member g (ancestors t f) ≡ true → Reached t f g g g
+  reached-above g =
+      climb-ind t _ (grounded-ranked t gr) (λ f. member g (ancestors t f) ≡ true → Reached t f g g g)
+      (λ f q m. absurd (false-true (rw (ancestors-none t gr f q) at m)))
+      (λ f e q ih m.
+      let r : Reached t (e .parent) g g g =
+      both (eqb g (e .parent))
+      (λ s. rw (← eqb-true g (e .parent) s) (reached-meeting g))
+      (λ s. ih (rw s at (rw (ancestors-some t gr f e q) at m)))
+      in
+      let low = r .target in
+      let d = ap length (ancestors-some t gr f e q) in
+      reached-up f g (λ s. let z = ap (λ (x : ℕ). length (ancestors t x)) s in omega arith) (omega arith) (omega arith) g g (rw q r))
+
   root : (f : ℕ) → length (ancestors t f) ≤ 0 → get t f ≡ none
   root f l = edge-or (get t f) (λ q. q) (λ e q. absurd (omega (arith, ap length (ancestors-some t gr f e q))))
 
@@ -138,6 +153,15 @@ module _ (t : Tree) (gr : Grounded t) where
         target = omega arith;
         source = omega arith;
       }
+
+-- ---- one above the other
+
+module _ (h : List ℕ) (n : ℕ) (rows : RisingRows n h) (f g : ℕ) where
+  pub source-above : OfTree h (λ t. member g (ancestors t f) ≡ true) → OfTree h (λ t. noCircle t ≡ true → AreTops t f g g g)
+  source-above m i p c = reached-above _ (grounded (storeOf h i p) n rows c) g f (m i p) .tops
+
+  pub target-above : OfTree h (λ t. member f (ancestors t g) ≡ true) → OfTree h (λ t. noCircle t ≡ true → AreTops t f g f f)
+  target-above m i p c = flipped _ g f f f (reached-above _ (grounded (storeOf h i p) n rows c) f g (m i p)) .tops
 
 -- ---- the climbs from f₀ and g₀ have come to f and g, which have a and b frames above them
 

@@ -8,9 +8,11 @@ use lib.ListN.{length}
 use lib.Ieee.{Float}
 use Rattle.time.specs.Reply.{Reply, answer, refusal, frame, _then_}
 use Rattle.buffer.specs.Row.{Instants, Row}
+use Rattle.walks.specs.declared.path.Climb.{Climb}
+use Rattle.walks.specs.declared.path.Climb.the-variants.{Met, Root}
 use Rattle.walks.specs.declared.path.Endpoints.{Endpoints}
 use Rattle.walks.specs.declared.path.Endpoints.the-variants.{Same, Unknown, Known}
-use Rattle.tree.specs.Tree.{Tree}
+use Rattle.tree.specs.Tree.{Tree, ancestors, member}
 use Rattle.tree.specs.Store.{Store, placesIn, rowWord, rowInstants, rowPoses, treeOf}
 use Rattle.tree.specs.Sound.{noCircle}
 use Rattle.tree.specs.Answers.{Value, at}
@@ -25,6 +27,11 @@ OfTree h P = (instants : List ℕ) (poses : List Float) → P (treeOf (storeOf h
 -- the hops from f up to the frame top, or to the root where top is not above f
 abbrev pub hopsTo : Tree → ℕ → ℕ → List Hop
 hopsTo t f top = hops t (until (eqb top) (chain t f))
+
+-- how the climb from f towards the goal ends: the goal is above f, or this many frames are
+abbrev pub ClimbsTo : Tree → ℕ → ℕ → Climb → Type 0
+ClimbsTo t f goal Met = member goal (ancestors t f) ≡ true
+ClimbsTo t f goal (Root n) = n ≡ length (ancestors t f)
 
 -- The climbs from f and g end at x and y: at one frame exactly when f and g are connected, and then it is the one where they meet; else at the roots.
 pub record AreTops (t : Tree) (f g x y : ℕ) : Type 0 where

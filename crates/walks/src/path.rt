@@ -1,5 +1,4 @@
-// Two frames of the tree: whether they are there, how deep they lie, and where the climbs from
-// them end.
+// Two frames of the tree: whether they are there, and where the climbs from them end.
 use storage::find;
 use storage::find::Found;
 use storage::head;
@@ -10,7 +9,7 @@ ghost use Rattle.tree.specs.Tree.{ancestors};
 ghost use Rattle.tree.specs.Sound.{climb, noCircle};
 ghost use Rattle.tree.specs.Path.{isParent, known};
 ghost use Rattle.storage.specs.Rows.{UsedRows, RisingRows};
-ghost use Rattle.walks.specs.Walks.{OfTree, AskedBy, AreTops};
+ghost use Rattle.walks.specs.Walks.{OfTree, AskedBy, ClimbsTo, AreTops};
 
 fn is_parent(head: &[u64], used: usize, frame: u64) -> bool
     requires { ⌜ UsedRows used (now head) ⌝ }
@@ -74,22 +73,31 @@ fn step_up(head: &[u64], used: usize, frame: u64) -> u64
     head::parent_at(head, row)
 }
 
-// How many frames are above the frame, by a walk of at most as many steps as there are rows.
-fn depth(head: &[u64], used: usize, frame: u64) -> usize
+// How a climb towards a frame ends: at that frame, or at the root, after so many steps.
+pub(crate) enum Climb {
+    Met,
+    Root(usize),
+}
+
+// From the frame up until the goal is met, by at most as many steps as there are rows.
+fn climb_to(head: &[u64], used: usize, frame: u64, goal: u64) -> Climb
     requires { ⌜ RisingRows used (now head) ⌝ }
-    ensures { λ r. ⌜ OfTree (now (head .entry)) (λ t. r ≡ length (ancestors t frame)) ⌝ }
+    ensures { λ r. ⌜ OfTree (now (head .entry)) (λ t. ClimbsTo t frame goal r) ⌝ }
 {
     let mut at = frame;
     let mut steps = 0;
     while steps < used {
         let found = find::find_row(head, used, at);
         let Found::At(row) = found else {
-            return steps;
+            return Climb::Root(steps);
         };
         at = head::parent_at(head, row);
+        if at == goal {
+            return Climb::Met;
+        }
         steps += 1;
     }
-    steps
+    Climb::Root(steps)
 }
 
 // Where the climbs from two frames end: both at the frame where they meet, or each at its root.
@@ -98,15 +106,25 @@ pub struct Tops {
     pub source: u64,
 }
 
-// Whichever lies deeper climbs, until they meet or are both at a root.
-pub fn meeting(head: &[u64], used: usize, target: u64, source: u64) -> Tops
-    requires { ⌜ RisingRows used (now head) ⌝ }
+// Of frames with so many frames above them: whichever lies deeper climbs, until they meet or are
+// both at a root.
+fn climb_both(
+    head: &[u64],
+    used: usize,
+    target: u64,
+    source: u64,
+    above_target: usize,
+    above_source: usize,
+) -> Tops
+    requires { ⌜ RisingRows used (now head)
+        × OfTree (now head) (λ t. «above_target» ≡ length (ancestors t target))
+        × OfTree (now head) (λ t. «above_source» ≡ length (ancestors t source)) ⌝ }
     ensures { λ r. ⌜ OfTree (now (head .entry)) (λ t. noCircle t ≡ true → AreTops t target source (r .target) (r .source)) ⌝ }
 {
     let mut f = target;
     let mut g = source;
-    let mut above_f = depth(head, used, f);
-    let mut above_g = depth(head, used, g);
+    let mut above_f = above_target;
+    let mut above_g = above_source;
     while f != g {
         if above_f < above_g {
             g = step_up(head, used, g);
@@ -126,4 +144,26 @@ pub fn meeting(head: &[u64], used: usize, target: u64, source: u64) -> Tops
         target: f,
         source: g,
     }
+}
+
+// Where one is above the other, that is the frame where they meet, and the climb to it suffices.
+pub fn meeting(head: &[u64], used: usize, target: u64, source: u64) -> Tops
+    requires { ⌜ RisingRows used (now head) ⌝ }
+    ensures { λ r. ⌜ OfTree (now (head .entry)) (λ t. noCircle t ≡ true → AreTops t target source (r .target) (r .source)) ⌝ }
+{
+    let from_target = climb_to(head, used, target, source);
+    let Climb::Root(above_target) = from_target else {
+        return Tops {
+            target: source,
+            source,
+        };
+    };
+    let from_source = climb_to(head, used, source, target);
+    let Climb::Root(above_source) = from_source else {
+        return Tops {
+            target,
+            source: target,
+        };
+    };
+    climb_both(head, used, target, source, above_target, above_source)
 }

@@ -1,97 +1,74 @@
--- `walks::path::meeting` meets its contract. The invariant of its loop: where the climbs from f and g end, those from the target and the source do.
-use Prim.Native.Nat.{_+_}
-use native.Mathlib.Omega.{arith}
-use Rattle.walks.proofs.MeetingFrame.{Climbing, climbs-start, climbs-target, climbs-source, climbs-meet, climbs-apart}
+-- `walks::path::meeting` meets its contract: one is above the other, or both climbs count the frames to the root.
+use Prim.Native.Nat.{ℕ}
+use mathlib.Core.Path.{subst}
+use mathlib.Core.List.{List}
+use borrow.Author.Needs.{needs}
+use Rattle.walks.specs.declared.path.Climb.{Climb}
+use Rattle.walks.specs.Walks.{OfTree, ClimbsTo}
+use Rattle.walks.proofs.MeetingFrame.{source-above, target-above}
 use Rattle.walks.proofs.path.meeting.Statement.{statement}
 use Rattle.walks.proofs.path.meeting.Tie as tie
 
-abbrev Inv-loop : tie.InvT-loop
-Inv-loop head used target source f₀ g₀ above-f₀ above-g₀ f g above-f above-g = Climbing head target source f g above-f above-g
+abbrev ClimbsIn : List ℕ → ℕ → ℕ → Climb → Type 0
+ClimbsIn h f goal r = OfTree h (λ t. ClimbsTo t f goal r)
 
-abbrev μ-loop : tie.MeasureT-loop
-μ-loop head used target source f₀ g₀ above-f₀ above-g₀ f g above-f above-g = above-f + above-g
+climb-to-requires : tie.Need-climb-to-requires
+climb-to-requires c κs = search needs
 
-depth-requires : tie.Need-depth-requires Inv-loop μ-loop
-depth-requires c κs = c .before .pre
+enum-known-from-target : tie.Need-enum-known-from-target
+enum-known-from-target c = search needs
 
-depth-requires-2 : tie.Need-depth-requires-2 Inv-loop μ-loop
-depth-requires-2 c κs = c .before .before .pre
+enum-told : tie.Need-enum-told
+enum-told c = search needs
 
-loop-holds : tie.Need-loop-holds Inv-loop μ-loop
-loop-holds c =
-    let s = c .before .before .before in
-    let a = s .args in
-    climbs-start (a .head .now) (a .used) (s .pre) (a .target) (a .source) _ _ (c .before .depth .ensures) (c .depth2 .ensures)
-
-step-up-requires : tie.Need-step-up-requires Inv-loop μ-loop
-step-up-requires c κs = c .before .before .before .before .before .before .pre
-
-sub-above-g : tie.Need-sub-above-g Inv-loop μ-loop
-sub-above-g c = omega arith
-
-loop-less : tie.Need-loop-less Inv-loop μ-loop
-loop-less c = omega arith
-
-loop-again : tie.Need-loop-again Inv-loop μ-loop
-loop-again c =
-    let m = c .before .before .before in
-    let s = m .before .before .before .before in
-    let a = s .args in
-    let l = m .loop in
-    climbs-source (a .head .now) (a .used) (s .pre) (a .target) (a .source) (l .f) (l .g) (l .above-f) (l .above-g) (l .inv)
-    (c .before .before .loop-test .taken) (omega arith) (omega arith) _ (c .step-up .ensures)
-
-returns : tie.Need-returns Inv-loop μ-loop
+returns : tie.Need-returns
 returns c =
-    let m = c .before .before .before in
-    let s = m .before .before .before .before in
+    let s = c .before .before .before .before in
     let a = s .args in
-    let l = m .loop in
-    climbs-apart (a .head .now) (a .used) (s .pre) (a .target) (a .source) (l .f) (l .g) (l .above-f) (l .above-g) (l .inv)
-    (c .before .before .loop-test .taken) (omega arith) (omega arith)
+    source-above (a .head .now) (a .used) (s .pre) (a .target) (a .source)
+    (subst (ClimbsIn (a .head .now) (a .target) (a .source)) (c .enum-told .given .1) (c .before .before .climb-to .ensures))
 
-step-up-requires-2 : tie.Need-step-up-requires-2 Inv-loop μ-loop
-step-up-requires-2 c κs = c .before .before .before .before .before .before .before .pre
+climb-to-requires-2 : tie.Need-climb-to-requires-2
+climb-to-requires-2 c κs = search needs
 
-sub-above-f : tie.Need-sub-above-f Inv-loop μ-loop
-sub-above-f c = omega arith
+enum-known-from-source : tie.Need-enum-known-from-source
+enum-known-from-source c = search needs
 
-loop-less-2 : tie.Need-loop-less-2 Inv-loop μ-loop
-loop-less-2 c = omega arith
+enum-told-2 : tie.Need-enum-told-2
+enum-told-2 c = search needs
 
-loop-again-2 : tie.Need-loop-again-2 Inv-loop μ-loop
-loop-again-2 c =
-    let m = c .before .before .before .before in
-    let s = m .before .before .before .before in
-    let a = s .args in
-    let l = m .loop in
-    climbs-target (a .head .now) (a .used) (s .pre) (a .target) (a .source) (l .f) (l .g) (l .above-f) (l .above-g) (l .inv)
-    (c .before .before .before .loop-test .taken) (omega arith) (omega arith) _ (c .step-up2 .ensures)
-
-returns-2 : tie.Need-returns-2 Inv-loop μ-loop
+returns-2 : tie.Need-returns-2
 returns-2 c =
-    let m = c .before in
-    let s = m .before .before .before .before in
+    let s = c .before .before .before .before .before .before .before .before in
     let a = s .args in
-    let l = m .loop in
-    climbs-meet (a .head .now) (a .used) (s .pre) (a .target) (a .source) (l .f) (l .g) (l .above-f) (l .above-g) (l .inv) (c .loop-test .left)
+    target-above (a .head .now) (a .used) (s .pre) (a .target) (a .source)
+    (subst (ClimbsIn (a .head .now) (a .source) (a .target)) (c .enum-told2 .given .1) (c .before .before .climb-to2 .ensures))
+
+climb-both-requires : tie.Need-climb-both-requires
+climb-both-requires c κs =
+    let g = c .before in
+    let f = g .before .before .before .before in
+    let s = f .before .before .before .before in
+    let a = s .args in (
+      s .pre,
+      subst (ClimbsIn (a .head .now) (a .target) (a .source)) (f .from-target .given .1) (f .before .before .climb-to .ensures),
+      subst (ClimbsIn (a .head .now) (a .source) (a .target)) (g .from-source .given .1) (g .before .before .climb-to2 .ensures),
+    )
+
+returns-3 : tie.Need-returns-3
+returns-3 c = search needs
 
 pub meeting-spec : {M : Type 1} → statement M
 meeting-spec =
     tie.close
     (tie.spec
-    Inv-loop
-    μ-loop
-    depth-requires
-    depth-requires-2
-    loop-holds
-    step-up-requires
-    sub-above-g
-    loop-less
-    loop-again
+    climb-to-requires
+    enum-known-from-target
+    enum-told
     returns
-    step-up-requires-2
-    sub-above-f
-    loop-less-2
-    loop-again-2
-    returns-2)
+    climb-to-requires-2
+    enum-known-from-source
+    enum-told-2
+    returns-2
+    climb-both-requires
+    returns-3)
