@@ -2,7 +2,7 @@
 use crate::measure::{Body, interleaved};
 use crate::ours::{INNER, WHOLE};
 use crate::same::{same_common, same_lookup};
-use crate::scene::{Random, Roots, STEP, Scene, frame_at};
+use crate::scene::{Random, Roots, STEP, Scene, frame_at, scattered};
 use crate::table::Row;
 use transforms::time::Timestamp;
 
@@ -21,6 +21,10 @@ impl Question {
     fn new(target: u32, source: u32, instant: u64) -> Self {
         let (target_text, source_text) = (target.to_string(), source.to_string());
         Question { target, source, instant, target_text, source_text }
+    }
+
+    fn scattered(&self) -> Self {
+        Question::new(scattered(self.target), scattered(self.source), self.instant)
     }
 }
 
@@ -89,6 +93,11 @@ pub fn rows(rounds: usize, rows: usize, samples: usize) -> Vec<Row> {
 
     for &h in &hops {
         out.push(lookup(&format!("lookup, static, hops {h}"), rounds, &fixed, &across(h, exact)));
+    }
+    let spread = Scene::numbered(rows, samples, 0, None, Roots::One, scattered);
+    for &h in &hops {
+        let questions: Vec<Question> = across(h, exact).iter().map(Question::scattered).collect();
+        out.push(lookup(&format!("lookup, static, scattered numbers, hops {h}"), rounds, &spread, &questions));
     }
     for &h in &hops {
         out.push(lookup(&format!("lookup, exact sample, hops {h}"), rounds, &moving, &across(h, exact)));

@@ -68,6 +68,11 @@ pub struct Scene {
 pub const ROOT: u32 = 0;
 const SECOND_ROOT: u32 = 1_000_000;
 
+/// Numbers all over 32 bits.
+pub fn scattered(frame: u32) -> u32 {
+    frame.wrapping_mul(2_654_435_761)
+}
+
 pub fn parent_of(child: u32, roots: Roots) -> u32 {
     match (child, roots) {
         (1, _) | (2, Roots::One) => ROOT,
@@ -94,10 +99,23 @@ impl Scene {
 
     /// All rows used; `held` samples in each at `STEP`, 2 `STEP` and so on, or a static pose where it is 0.
     pub fn filled(rows: usize, samples: usize, held: usize, max_age: Option<u64>, roots: Roots) -> Self {
+        Scene::numbered(rows, samples, held, max_age, roots, |frame| frame)
+    }
+
+    /// The same, with other numbers for the frames.
+    pub fn numbered(
+        rows: usize,
+        samples: usize,
+        held: usize,
+        max_age: Option<u64>,
+        roots: Roots,
+        number: fn(u32) -> u32,
+    ) -> Self {
         let mut scene = Scene::empty(rows, samples, max_age);
         let mut random = Random(88172645463325252);
         for child in 1..=rows as u32 {
-            let parent = parent_of(child, roots);
+            let parent = number(parent_of(child, roots));
+            let child = number(child);
             if held == 0 {
                 scene.add(&Addition { child, parent, instant: None, pose: random.pose() });
             }
