@@ -1,2 +1,3 @@
 pub mod Meaning
 pub mod Texts
+pub mod Laws
