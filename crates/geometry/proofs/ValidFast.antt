@@ -16,17 +16,17 @@ use lib.Ieee.Positive.{num, den, above-of-le, positive, le-trans-positive}
 use Rattle.time.specs.Float.{_⊖_, one64, abs}
 use Rattle.time.specs.Reply.{answer, norm, nothing, refuse}
 use Rattle.time.proofs.Seconds.{Plain, plain, le→cross}
-use Rattle.geometry.specs.Sqrt.{sqrt, sqrtAt}
-use Rattle.geometry.specs.Laws.{Units}
+use Rattle.libm.specs.Sqrt.{sqrt, sqrtAt}
+use Rattle.libm.specs.Laws.{Units}
 use Rattle.geometry.specs.Transform.{isValid, passes, tolerance, validate}
 use Rattle.geometry.specs.Vector3 as vector
 use Rattle.geometry.specs.Quaternion.{dot, isFinite}
 use Rattle.geometry.specs.declared.quaternion.Quaternion.{Quaternion}
 use Rattle.geometry.specs.declared.isometry.Isometry.{Isometry}
 use Rattle.geometry.proofs.Squares.{dot-upward, dot-finite}
-use Rattle.geometry.proofs.Neighbours.{gap}
-use Rattle.geometry.proofs.SqrtNearest.{held}
-use Rattle.geometry.proofs.SqrtOrder.{sqrt-mono, sqrt-plain, units-of}
+use Rattle.libm.proofs.Neighbours.{gap}
+use Rattle.libm.proofs.SqrtNearest.{held}
+use Rattle.libm.proofs.SqrtOrder.{sqrt-mono, sqrt-plain, units-of}
 use Rattle.geometry.proofs.UnitDistance.{Upward, distance-upward, closer-below, closer-above, le-through, below-is}
 
 -- a positive f64

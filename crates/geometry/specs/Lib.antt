@@ -1,6 +1,3 @@
-pub mod Sqrt
-pub mod Libm
-pub mod Enclosure
 pub mod Vector3
 pub mod Quaternion
 pub mod Isometry

@@ -6,8 +6,8 @@ use Rattle.time.specs.Float.{_⊕_, _⊖_, _⊗_, _⊘_, zero64, one64}
 use Rattle.time.specs.Reply.{Reply, answer, nothing, refuse}
 use Rattle.geometry.specs.declared.vector3.Vector3.{Vector3}
 use Rattle.geometry.specs.declared.quaternion.Quaternion.{Quaternion}
-use Rattle.geometry.specs.Sqrt.{sqrt}
-use Rattle.geometry.specs.Libm.{acos, sin, clamp}
+use Rattle.libm.specs.Sqrt.{sqrt}
+use Rattle.libm.specs.Libm.{acos, sin, clamp}
 
 -- 2^-52, and -1.0
 abbrev pub epsilon : Float

@@ -2,13 +2,13 @@
 ghost use mathlib.Core.Path.{_≡_};
 ghost use Rattle.geometry.specs.Answers.{normalizedReply};
 ghost use Rattle.geometry.specs.Quaternion.{identity, conjugate, scale, mul, weightedSum, dot, norm, isFinite, normalize, rotateVector, blend, arc, between, slerp};
-use super::float::EPSILON;
-use super::float::clamp;
-use super::float::is_finite;
-use super::libm::acos;
-use super::libm::sin;
-use super::libm::sqrt;
 use super::vector3::Vector3;
+use libm::acos;
+use libm::float::EPSILON;
+use libm::float::clamp;
+use libm::float::is_finite;
+use libm::sin;
+use libm::sqrt;
 
 #[repr(C)]
 pub struct Quaternion {

@@ -1,7 +1,7 @@
 // Translations, from src/geometry/vector3/mod.rs.
 ghost use mathlib.Core.Path.{_≡_};
 ghost use Rattle.geometry.specs.Vector3.{zeroVector, add, scale, isFinite};
-use super::float::is_finite;
+use libm::float::is_finite;
 
 #[repr(C)]
 pub struct Vector3 {

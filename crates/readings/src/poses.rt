@@ -1,9 +1,9 @@
 // The readings of single poses.
 use super::report;
-use geometry::float::from_bits;
 use geometry::isometry::Isometry;
 use geometry::quaternion::Quaternion;
 use geometry::vector3::Vector3;
+use libm::float::from_bits;
 
 // A translation without a rotation.
 pub(crate) fn moved(x: f64, y: f64) -> Isometry {
@@ -33,7 +33,7 @@ pub(crate) const REFUSED: u64 = 0x3ff0_0001_0c6f_7a0c;
 
 fn sqrt(x: f64, expected: &[u8]) {
     report::asked_float(b"root of", x);
-    report::float(expected, geometry::libm::sqrt(x));
+    report::float(expected, libm::sqrt(x));
 }
 
 pub(crate) fn roots() {

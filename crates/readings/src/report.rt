@@ -1,9 +1,9 @@
 // The line of a reading: what was asked, what is expected, what came out, and whether they agree.
 use answers::Reply;
-use geometry::float::to_bits;
 use geometry::isometry::Isometry;
 use geometry::transform;
 use libc::STDOUT_FILENO;
+use libm::float::to_bits;
 use tree::answer::Answer;
 
 pub(crate) fn put(text: &[u8]) {

@@ -6,7 +6,7 @@ use lib.Dec.{T}
 use lib.Ieee.{Float, binary64, ne, isNan, toBits}
 use lib.Ieee.Bits.{is-false}
 use lib.Ieee.Compare.{differs-from-itself}
-use Rattle.geometry.proofs.FloatBits.{not-nan}
+use Rattle.libm.proofs.FloatBits.{not-nan}
 use Rattle.text.specs.Digits.{digits}
 use Rattle.text.specs.Writing.{floatText}
 

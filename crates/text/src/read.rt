@@ -176,7 +176,7 @@ pub fn read_float(line: &[u8], at: usize) -> Float
             if next - at != 17 {
                 return Float::Malformed;
             }
-            Float::Value(geometry::float::from_bits(bits), next)
+            Float::Value(libm::float::from_bits(bits), next)
         }
         Number::Malformed => Float::Malformed,
     }

@@ -87,5 +87,5 @@ pub fn write_float(out: &mut [u8], at: usize, x: f64) -> usize
     if x != x {
         return write_bytes(out, at, b"nan");
     }
-    write_digits(out, at, geometry::float::to_bits(x), 16, 16)
+    write_digits(out, at, libm::float::to_bits(x), 16, 16)
 }

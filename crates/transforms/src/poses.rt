@@ -4,7 +4,6 @@ use super::operands::Pose;
 use super::operands::Poses;
 use super::operands::Three;
 use super::output;
-use geometry::libm;
 use text::Float;
 
 // `mul P P`

@@ -5,8 +5,8 @@ use mathlib.Core.Option.{none, some}
 use mathlib.Core.List.{[], _∷_}
 use lib.Ieee.{round, add, sub, mul, div, neg, lt, le, ofBits, ofInt, toBits}
 use Rattle.time.specs.Timestamp.{asSecsF64, share}
-use Rattle.geometry.specs.Sqrt.{sqrtAt}
-use Rattle.geometry.specs.Libm.{acos, sin}
+use Rattle.libm.specs.Sqrt.{sqrtAt}
+use Rattle.libm.specs.Libm.{acos, sin}
 use Rattle.geometry.specs.Quaternion.{normalize, rotateVector, blend, arc, between, slerp}
 use Rattle.geometry.specs.Isometry as isometry
 use Rattle.geometry.specs.Transform.{validate}

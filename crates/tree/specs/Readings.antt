@@ -13,7 +13,7 @@ use Rattle.time.specs.declared.stamp.Stamp.the-variants.{Static, At}
 use Rattle.time.specs.Float.{whole, zero64, one64}
 use Rattle.time.specs.Reply.{Reply, answer, refusal, nothing, norm, hop}
 use Rattle.geometry.specs.declared.isometry.Isometry.{Isometry}
-use Rattle.geometry.specs.Sqrt.{sqrt}
+use Rattle.libm.specs.Sqrt.{sqrt}
 use Rattle.geometry.specs.Isometry.{identity}
 use Rattle.tree.specs.Tree.{Limits, Addition}
 use Rattle.tree.specs.Store.{Store, rowInstants}

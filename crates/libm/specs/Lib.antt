@@ -1,0 +1,4 @@
+pub mod Sqrt
+pub mod Libm
+pub mod Enclosure
+pub mod Laws
