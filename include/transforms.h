@@ -2,7 +2,7 @@
  * Tinhvok: a tree of frames with timed poses, over memory that the caller lends.
  *
  * Every function here is proved, for every input, to answer as its definition says (crates/transforms_c/specs
- * over crates/tree/specs and crates/geometry/specs). Each call ends. A call that refuses leaves all lent
+ * over crates/registry/specs and crates/geometry/specs). Each call ends. A call that refuses leaves all lent
  * memory as it was. Nothing is kept between calls: no heap, no global state, no locks. Two threads may
  * read one store at once; a call that writes needs the store to itself.
  *

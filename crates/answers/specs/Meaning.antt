@@ -1,6 +1,6 @@
 -- What each case of the enums says, in document 01's terms.
 use Rattle.time.specs.Reply.{Reply, Carried, answer, refusal, nothing, norm, frame, hop}
-use Rattle.tree.specs.Answers.{Value, done, pose, static, at, rangeOf}
+use Rattle.registry.specs.Answers.{Value, done, pose, static, at, rangeOf}
 use Rattle.answers.specs.declared.reply.Carried.{Carried as CarriedEnum}
 use Rattle.answers.specs.declared.reply.Carried.the-variants as carried
 use Rattle.answers.specs.declared.reply.Reply.{Reply as ReplyEnum}

@@ -7,8 +7,8 @@ use Rattle.time.specs.Reply.{Reply, Carried, answer, refusal, nothing, norm, fr
 use Rattle.geometry.specs.declared.vector3.Vector3.{Vector3}
 use Rattle.geometry.specs.declared.quaternion.Quaternion.{Quaternion}
 use Rattle.geometry.specs.declared.isometry.Isometry.{Isometry}
-use Rattle.tree.specs.Answers.{Value}
-use Rattle.tree.specs.Answers as value
+use Rattle.registry.specs.Answers.{Value}
+use Rattle.registry.specs.Answers as value
 use Rattle.text.specs.Writing.{written, numberText, floatText}
 
 -- Where the texts end, and the buffer with them in it. A text without room is left out.

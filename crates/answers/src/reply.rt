@@ -1,12 +1,12 @@
 // Replies as document 01 numbers them: an answer, or a refusal by its number in the table of noes.
 use geometry::isometry::Isometry;
 use geometry::transform;
-use tree::answer::Answer;
-use tree::answer::Covered;
+use registry::answer::Answer;
+use registry::answer::Covered;
 ghost use mathlib.Core.Path.{_≡_};
 ghost use Rattle.time.specs.Reply.{answer, _then_};
 ghost use Rattle.geometry.specs.Answers as geometry;
-ghost use Rattle.tree.specs.Answers.{replyOf, pose};
+ghost use Rattle.registry.specs.Answers.{replyOf, pose};
 ghost use Rattle.answers.specs.Meaning.{replied};
 
 // The data that a refusal carries.

@@ -4,10 +4,10 @@ use super::reply::Reply;
 use geometry::isometry::Isometry;
 use geometry::quaternion::Quaternion;
 use geometry::vector3::Vector3;
-use tree::answer::Covered;
+use registry::answer::Covered;
 ghost use mathlib.Core.Path.{_≡_};
 ghost use mathlib.Core.List.{_∷_};
-ghost use Rattle.tree.specs.Answers.{rangeOf};
+ghost use Rattle.registry.specs.Answers.{rangeOf};
 ghost use Rattle.answers.specs.Meaning.{replied, carriedBy};
 ghost use Rattle.answers.specs.Texts.{writtenAll, float, numberWord, floatWord, translationTexts, rotationTexts, poseTexts, hopTexts, carriedTexts, refusalTexts, instantTexts, replyTexts};
 

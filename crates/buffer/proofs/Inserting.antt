@@ -18,7 +18,7 @@ use Rattle.geometry.specs.declared.isometry.Isometry.{Isometry}
 use Rattle.buffer.specs.declared.kind.Kind.the-variants.{Static, Dynamic}
 use Rattle.buffer.specs.Map.{put, keep}
 use Rattle.buffer.specs.Samples.{Samples, newest, survives, insert}
-use Rattle.slices.specs.Words.{replaced, inserted, removed}
+use Rattle.buffer.specs.Words.{replaced, inserted, removed}
 use Rattle.buffer.specs.Row.{floats, instantWords, poseWords, padded, samplesOf, below, Row, RowOutcome, outcome, holding, insertRow, removeBeforeRow, FloatsFit}
 use Rattle.buffer.proofs.Cases.{both}
 use Rattle.buffer.proofs.Maps.{Rising, rising-keep, keep-put, keep-put-dropped, length-keep-le, length-put-le}

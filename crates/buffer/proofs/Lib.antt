@@ -1,3 +1,4 @@
+pub mod Moves
 pub mod Cases
 pub mod Maps
 pub mod Alls
@@ -13,3 +14,6 @@ pub mod Places
 pub mod Inserting
 pub mod Serving
 pub mod BufferLaws
+pub mod Parts
+pub mod Ascending
+pub mod RowSoundLoops

@@ -6,7 +6,7 @@ use native.Mathlib.Nat.{mul-suc, mul-zero, add-comm, mul-le-mul-left, sub-zero, 
 use native.Mathlib.Omega.{arith}
 use lib.ListN.{length, set, take, drop, replicate, length-append, length-take, length-drop, length-set, length-replicate, replicate-append-replicate}
 use lib.Seq.{take-append-add, drop-append-add, take-append-le, drop-append-le, take-at, drop-at, take-nil, drop-nil, set-split}
-use Rattle.slices.specs.Words.{replaced, inserted, removed}
+use Rattle.buffer.specs.Words.{replaced, inserted, removed}
 use Rattle.buffer.specs.Row.{concatMap, padded}
 
 w-suc : (w k : ℕ) → w * suc k ≡ w + w * k

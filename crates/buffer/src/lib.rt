@@ -5,5 +5,7 @@ pub mod insert;
 pub mod kind;
 pub mod max_age;
 mod place;
-pub mod pose;
+mod pose;
 pub mod remove_before;
+pub mod sound;
+pub mod words;

@@ -4,7 +4,7 @@ ghost use lib.ListN.{take};
 ghost use Rattle.buffer.specs.Row.{Instants, below};
 
 // How many held instants are below t: where t has its place among them.
-pub fn place(instants: &[u64], count: usize, t: u64) -> usize
+pub(crate) fn place(instants: &[u64], count: usize, t: u64) -> usize
     requires { ⌜ Instants count (now instants) ⌝ }
     ensures { λ r. ⌜ r ≡ below t (take count (now (instants .entry))) ⌝ }
 {

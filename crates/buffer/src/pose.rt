@@ -1,15 +1,15 @@
 // Poses at a stride of seven floats.
+use super::words;
 use geometry::isometry::Isometry;
 use geometry::quaternion::Quaternion;
 use geometry::vector3::Vector3;
-use slices::words;
 ghost use mathlib.Core.Path.{_≡_};
 ghost use Prim.Native.Nat.{_+_, _*_, _≤_};
 ghost use lib.ListN.{length, drop};
-ghost use Rattle.slices.specs.Words.{replaced, inserted};
+ghost use Rattle.buffer.specs.Words.{replaced, inserted};
 ghost use Rattle.buffer.specs.Row.{floats, poseOf};
 
-pub fn read_pose(poses: &[f64], place: usize) -> Isometry
+pub(crate) fn read_pose(poses: &[f64], place: usize) -> Isometry
     requires { ⌜ 7 * place + 7 ≤ length (now poses) ⌝ }
     ensures { λ r. ⌜ r ≡ poseOf (drop (7 * place) (now (poses .entry))) ⌝ }
 {

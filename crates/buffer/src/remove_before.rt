@@ -1,7 +1,7 @@
 // Wiping.
 use super::kind::Kind;
 use super::place;
-use slices::words;
+use super::words;
 ghost use mathlib.Core.Path.{_≡_};
 ghost use Rattle.time.specs.Reply.{answer};
 ghost use Rattle.buffer.specs.Row.{Row, outcome, removeBeforeRow};

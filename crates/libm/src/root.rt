@@ -6,15 +6,15 @@ ghost use Rattle.libm.specs.Sqrt.{rootUnits, sqrt, unitsOf};
 use super::float::to_bits;
 
 // A root in whole numbers, and what is left below the radicand.
-pub struct Digits {
-    pub root: u64,
-    pub rest: u64,
+pub(crate) struct Digits {
+    pub(crate) root: u64,
+    pub(crate) rest: u64,
 }
 
 // significand * 2^exponent, in units of 2^-1126.
-pub struct Parts {
-    pub significand: u64,
-    pub exponent: u64,
+pub(crate) struct Parts {
+    pub(crate) significand: u64,
+    pub(crate) exponent: u64,
 }
 
 // The whole root of n * 2^54, a binary digit at a time. At each turn root * root + rest * bit is

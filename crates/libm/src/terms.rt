@@ -9,9 +9,9 @@ ghost use Rattle.libm.specs.Enclosure.{run, Within, Square, Bound, Enclo
 use super::float::to_bits;
 
 // Two values that a third lies between.
-pub struct Bounds {
-    pub low: f64,
-    pub high: f64,
+pub(crate) struct Bounds {
+    pub(crate) low: f64,
+    pub(crate) high: f64,
 }
 
 // (2k-1)^2, for k from 1 to 48
@@ -118,7 +118,7 @@ const DENOMINATORS: [u16; 48] = [
     9312,
 ];
 
-pub fn denominator(k: usize) -> f64
+pub(crate) fn denominator(k: usize) -> f64
     requires { ⌜ (1 ≤ k) × (k ≤ 48) ⌝ }
     ensures { λ r. ⌜ r ≡ whole (denominator k) ⌝ }
 {
@@ -195,7 +195,7 @@ fn enclosed(square: f64, least: f64, most: f64, k: usize) -> Bounds
 }
 
 // What the 48 steps give, with `near` about the square of z: bounds that meet have it between them.
-pub fn acos_sum(z: f64, near: f64) -> f64
+pub(crate) fn acos_sum(z: f64, near: f64) -> f64
     ensures { λ r. ⌜ r ≡ acosSteps 48 z one64 ⌝ }
 {
     let square = z * z;

@@ -4,7 +4,7 @@ use geometry::isometry::Isometry;
 use geometry::transform;
 use libc::STDOUT_FILENO;
 use libm::float::to_bits;
-use tree::answer::Answer;
+use registry::answer::Answer;
 
 pub(crate) fn put(text: &[u8]) {
     io::write_all(STDOUT_FILENO, text);

@@ -1,2 +1,5 @@
-pub mod RowWiping
-pub mod CallsPathLaw
+pub mod AsMap
+pub mod Readings
+pub mod ReplyInjective
+pub mod ViewFixes
+pub mod histories

@@ -1,2 +1,26 @@
 // Lookup.
-pub use lookup::get_transform::get_transform;
+use crate::answer::Answer;
+use crate::lookup::resolve;
+use crate::soundness::check;
+use crate::soundness::check::Checked;
+ghost use mathlib.Core.Path.{_≡_};
+ghost use Rattle.registry.specs.Answers.{replyOf};
+ghost use Rattle.registry.specs.Calls.{storeOf, lookupOf};
+
+// The source's pose seen from the target, at an instant.
+pub fn get_transform(
+    head: &[u64],
+    instants: &[u64],
+    poses: &[f64],
+    target: u32,
+    source: u32,
+    t: u64,
+) -> Answer
+    ensures { λ r. ⌜ replyOf r ≡ lookupOf (storeOf (now (head .entry)) (now (instants .entry)) (now (poses .entry))) target source t ⌝ }
+{
+    match check::check(head, instants, poses) {
+        Checked::Sizes => Answer::Sizes,
+        Checked::UnsoundStore => Answer::UnsoundStore,
+        Checked::Sound => resolve::resolve(head, instants, poses, target, source, t),
+    }
+}

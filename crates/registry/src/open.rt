@@ -1,13 +1,13 @@
 // Opening a store.
+use super::answer::Answer;
+use crate::layout::head;
+use crate::soundness::sizes;
 use buffer::max_age::MaxAge;
-use slices::words;
-use storage::head;
-use storage::sizes;
-use tree::answer::Answer;
+use buffer::words;
 ghost use mathlib.Core.Path.{_≡_};
 ghost use Rattle.buffer.specs.Answers.{ageOf};
-ghost use Rattle.tree.specs.Answers.{replyOf};
-ghost use Rattle.tree.specs.Calls.{outcome, storeOf, openOf};
+ghost use Rattle.registry.specs.Answers.{replyOf};
+ghost use Rattle.registry.specs.Calls.{outcome, storeOf, openOf};
 
 // Overwrites everything with a store of these sizes and this age, with no row used.
 pub fn open(

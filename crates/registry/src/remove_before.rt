@@ -1,18 +1,19 @@
 // Wiping.
+use super::answer::Answer;
+use crate::layout::find;
+use crate::layout::find::Found;
+use crate::layout::head;
+use crate::soundness::check;
+use crate::soundness::check::Checked;
 use buffer::remove_before;
-use storage::check;
-use storage::check::Checked;
-use storage::find;
-use storage::find::Found;
-use storage::head;
-use tree::answer::Answer;
 ghost use mathlib.Core.Path.{_≡_};
 ghost use Prim.Native.Nat.{_<_};
 ghost use Rattle.time.specs.Reply.{answer};
-ghost use Rattle.tree.specs.Store.{usedIn, rowWord};
-ghost use Rattle.tree.specs.Answers.{replyOf, done};
-ghost use Rattle.tree.specs.Calls.{outcome, storeOf, wipeOf};
-ghost use Rattle.storage.specs.Checks.{RowPart, SoundStore};
+ghost use Rattle.registry.specs.Store.{usedIn, rowWord};
+ghost use Rattle.registry.specs.Answers.{replyOf, done};
+ghost use Rattle.registry.specs.Calls.{outcome, storeOf, wipeOf};
+ghost use Rattle.registry.specs.layout.Rows.{RowPart};
+ghost use Rattle.registry.specs.soundness.Checks.{SoundStore};
 
 // Drops row r's samples before t, where it is a moving row.
 fn wipe_row(head: &mut [u64], instants: &mut [u64], poses: &mut [f64], r: usize, t: u64)

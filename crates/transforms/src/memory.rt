@@ -5,8 +5,8 @@ use super::operands::Three;
 use super::output;
 use super::store;
 use buffer::max_age::MaxAge;
+use registry::answer::Answer;
 use text::Number;
-use tree::answer::Answer;
 ghost use Prim.Native.Nat.{_≤_};
 
 // How many words of each slice are lent.

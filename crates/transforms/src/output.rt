@@ -1,6 +1,6 @@
 // The buffer of answers, and the answers that are single words. The next place is answered.
 use geometry::transform;
-use tree::answer::Answer;
+use registry::answer::Answer;
 
 // More bytes than any answer has, and than any word of `words`.
 const SPARE: usize = 512;

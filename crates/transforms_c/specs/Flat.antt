@@ -7,9 +7,9 @@ use Rattle.time.specs.Float.{zero64}
 use Rattle.time.specs.Reply.{Reply, answer, refusal, nothing, norm, frame, hop, _then_}
 use Rattle.geometry.specs.declared.isometry.Isometry.{Isometry}
 use Rattle.geometry.specs.Vector3.{zeroVector}
-use Rattle.tree.specs.Store.{Store}
-use Rattle.tree.specs.Answers.{Value, done, pose, static, at}
-use Rattle.tree.specs.Calls.{Outcome, storeOf}
+use Rattle.registry.specs.Store.{Store}
+use Rattle.registry.specs.Answers.{Value, done, pose, static, at}
+use Rattle.registry.specs.Calls.{Outcome, storeOf}
 use Rattle.transforms_c.specs.declared.answer.Answer.{Answer}
 
 -- seven times +0.0

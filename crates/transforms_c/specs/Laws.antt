@@ -3,7 +3,7 @@ use Prim.Native.Nat.{ℕ}
 use mathlib.Core.Path.{_≡_}
 use mathlib.Core.Bool.{_&&_}
 use lib.ListN.{length}
-use Rattle.tree.specs.Store.{Store, sizesFit}
+use Rattle.registry.specs.Store.{Store, sizesFit}
 use Rattle.transforms_c.specs.Lengths.{rowsFit, placesFit, headLen, instantsLen, posesLen}
 
 -- slices of the lengths told are opened, unless E or S is out of its bounds

@@ -2,11 +2,11 @@
 use super::answer::Answer;
 use geometry::isometry::Isometry;
 use geometry::transform;
-use tree::answer;
-use tree::answer::Covered;
+use registry::answer;
+use registry::answer::Covered;
 ghost use mathlib.Core.Path.{_≡_};
 ghost use Rattle.geometry.specs.Answers.{replyOf as poseReply};
-ghost use Rattle.tree.specs.Answers.{rangeOf, replyOf};
+ghost use Rattle.registry.specs.Answers.{rangeOf, replyOf};
 ghost use Rattle.transforms_c.specs.Flat.{plain, posed, anyInstant, atInstant, normed, framed, ranged, flat, flatPose};
 
 // A number that carries nothing.

@@ -9,7 +9,7 @@ use registry::latest_common_time;
 use registry::open;
 use registry::remove_before;
 ghost use mathlib.Core.Path.{_≡_};
-ghost use Rattle.tree.specs.Calls.{storeOf, openOf, addOf, wipeOf, lookupOf, commonTimeOf};
+ghost use Rattle.registry.specs.Calls.{storeOf, openOf, addOf, wipeOf, lookupOf, commonTimeOf};
 ghost use Rattle.transforms_c.specs.Flags.{ageOfFlag, stampOfFlag};
 ghost use Rattle.transforms_c.specs.Flat.{flat, returned, flatOutcome};
 

@@ -4,7 +4,7 @@ use mathlib.Core.Path.{sym, ap}
 use Rattle.time.specs.Reply.{Reply, answer, _then_}
 use Rattle.geometry.specs.declared.transform.Answer.{Answer}
 use Rattle.geometry.specs.Answers.{replyOf}
-use Rattle.tree.specs.Answers.{Value, pose}
+use Rattle.registry.specs.Answers.{Value, pose}
 use Rattle.answers.proofs.reply.of_pose.Statement.{statement}
 use Rattle.answers.proofs.reply.of_pose.Tie as tie
 

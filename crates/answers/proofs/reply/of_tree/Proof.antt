@@ -2,8 +2,8 @@
 use borrow.Author.Needs.{needs}
 use mathlib.Core.Path.{sym, ap}
 use Rattle.time.specs.Reply.{Reply}
-use Rattle.tree.specs.declared.answer.Answer.{Answer}
-use Rattle.tree.specs.Answers.{Value, replyOf}
+use Rattle.registry.specs.declared.answer.Answer.{Answer}
+use Rattle.registry.specs.Answers.{Value, replyOf}
 use Rattle.answers.proofs.reply.of_tree.Statement.{statement}
 use Rattle.answers.proofs.reply.of_tree.Tie as tie
 

@@ -3,9 +3,9 @@ use mathlib.Core.Path.{refl, ap, _∙_}
 use mathlib.Core.List.{List}
 use native.Mathlib.Omega.{arith}
 use lib.Ieee.{Float}
-use Rattle.slices.specs.Words.{replaced}
+use Rattle.buffer.specs.Words.{replaced}
 use Rattle.buffer.specs.Row.{floats}
-use Rattle.slices.proofs.Moves.{up-put}
+use Rattle.buffer.proofs.Moves.{up-put}
 use borrow.Author.Needs.{needs}
 use Rattle.buffer.proofs.pose.insert_pose.Statement.{statement}
 use Rattle.buffer.proofs.pose.insert_pose.Tie as tie

@@ -2,7 +2,7 @@ use Prim.Native.Nat.{_+_, _-_, _*_}
 use mathlib.Core.Path.{_≡_, refl}
 use native.Mathlib.Omega.{arith}
 use Rattle.buffer.specs.Row.{floats}
-use Rattle.slices.proofs.Moves.{put-replaced}
+use Rattle.buffer.proofs.Moves.{put-replaced}
 use borrow.Author.Needs.{needs}
 use Rattle.buffer.proofs.pose.write_pose.Statement.{statement}
 use Rattle.buffer.proofs.pose.write_pose.Tie as tie

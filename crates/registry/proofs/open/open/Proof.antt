@@ -7,11 +7,11 @@ use lib.ListN.{length, length-set}
 use borrow.Author.Needs.{needs}
 use borrow.Author.Tests.{not-true, not-false}
 use Rattle.buffer.specs.Answers.{ageOf}
-use Rattle.tree.specs.Tree.{Limits}
-use Rattle.tree.specs.Store.{sizesFit}
-use Rattle.tree.specs.Calls.{storeOf}
-use Rattle.tree.proofs.SizeLaws.{sizes-fit-is}
-use Rattle.tree.proofs.Opening.{open-refused, opened-unlimited, opened-aged}
+use Rattle.registry.specs.Tree.{Limits}
+use Rattle.registry.specs.Store.{sizesFit}
+use Rattle.registry.specs.Calls.{storeOf}
+use Rattle.registry.proofs.layout.SizeLaws.{sizes-fit-is}
+use Rattle.registry.proofs.open.Opening.{open-refused, opened-unlimited, opened-aged}
 use Rattle.registry.proofs.open.open.Statement.{statement}
 use Rattle.registry.proofs.open.open.Tie as tie
 

@@ -1,13 +1,13 @@
 -- `registry::remove_before::remove_before` meets its contract: 1, 2, or the wipe of a store that is sized and sound.
 use mathlib.Core.Path.{_≡_, subst}
 use borrow.Author.Needs.{needs}
-use Rattle.storage.specs.declared.check.Checked.{Checked}
-use Rattle.storage.specs.declared.check.Checked.the-variants.{Sizes, UnsoundStore}
-use Rattle.tree.specs.Store.{Store}
-use Rattle.tree.specs.Tree.{wipe}
-use Rattle.tree.specs.Calls.{storeOf, wipeOf}
-use Rattle.storage.specs.Checks.{Checks}
-use Rattle.storage.proofs.Called.{written-called}
+use Rattle.registry.specs.declared.soundness.check.Checked.{Checked}
+use Rattle.registry.specs.declared.soundness.check.Checked.the-variants.{Sizes, UnsoundStore}
+use Rattle.registry.specs.Store.{Store}
+use Rattle.registry.specs.Tree.{wipe}
+use Rattle.registry.specs.Calls.{storeOf, wipeOf}
+use Rattle.registry.specs.soundness.Checks.{Checks}
+use Rattle.registry.proofs.soundness.Called.{written-called}
 use Rattle.registry.proofs.remove_before.remove_before.Statement.{statement}
 use Rattle.registry.proofs.remove_before.remove_before.Tie as tie
 

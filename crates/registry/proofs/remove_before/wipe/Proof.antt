@@ -3,11 +3,11 @@ use Prim.Native.Nat.{ℕ}
 use mathlib.Core.Path.{ap, subst, _∙_}
 use native.Mathlib.Omega.{arith}
 use borrow.Author.Needs.{needs}
-use Rattle.tree.specs.Store.{Store, usedIn}
-use Rattle.tree.specs.Calls.{storeOf, wipeOf}
-use Rattle.storage.specs.Rows.{Finds, IsRow}
-use Rattle.storage.proofs.SoundStore.{sound-rows, sound-part}
-use Rattle.registry.proofs.RowWiping.{wipe-absent}
+use Rattle.registry.specs.Store.{Store, usedIn}
+use Rattle.registry.specs.Calls.{storeOf, wipeOf}
+use Rattle.registry.specs.layout.Rows.{Finds, IsRow}
+use Rattle.registry.proofs.soundness.SoundStore.{sound-rows, sound-part}
+use Rattle.registry.proofs.remove_before.RowWiping.{wipe-absent}
 use Rattle.registry.proofs.remove_before.wipe.Statement.{statement}
 use Rattle.registry.proofs.remove_before.wipe.Tie as tie
 

@@ -1,10 +1,10 @@
 -- `registry::remove_before::wipe_row` meets its contract: the parts that it lends are the row's.
 use borrow.Author.Needs.{needs}
-use Rattle.tree.specs.Store.{Store}
-use Rattle.tree.specs.Calls.{storeOf}
-use Rattle.storage.proofs.SoundStore.{sound-row-words}
-use Rattle.storage.proofs.RowHolding.{row-lent}
-use Rattle.registry.proofs.RowWiping.{row-wiped}
+use Rattle.registry.specs.Store.{Store}
+use Rattle.registry.specs.Calls.{storeOf}
+use Rattle.registry.proofs.soundness.SoundStore.{sound-row-words}
+use Rattle.registry.proofs.layout.RowHolding.{row-lent}
+use Rattle.registry.proofs.remove_before.RowWiping.{row-wiped}
 use Rattle.registry.proofs.remove_before.wipe_row.Statement.{statement}
 use Rattle.registry.proofs.remove_before.wipe_row.Tie as tie
 

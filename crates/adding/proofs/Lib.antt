@@ -1,5 +1,0 @@
-pub mod RowInserting
-pub mod RowPutting
-pub mod Admitting
-pub mod AddWritten
-pub mod EncodedRows

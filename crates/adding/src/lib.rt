@@ -1,4 +1,0 @@
-// Addition.
-pub mod add;
-mod cycle;
-mod new_row;

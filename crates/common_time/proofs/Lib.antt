@@ -1,2 +1,0 @@
-pub mod CommonHops
-pub mod Narrowing

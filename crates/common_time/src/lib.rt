@@ -1,3 +1,0 @@
-// Latest common time.
-mod common;
-pub mod latest_common_time;

@@ -1,4 +1,0 @@
-// Lookup.
-mod compose;
-pub mod get_transform;
-mod resolve;

@@ -1,0 +1,65 @@
+-- What the stores of a new row leave: its four words in the head, and zeros for its samples.
+use Prim.Native.Nat.{ℕ, _+_, _-_, _*_, _≤_}
+use mathlib.Core.Path.{_≡_, refl, ap, _∙_}
+use mathlib.Core.List.{List, [], _∷_, append-assoc}
+use native.Mathlib.Nat.{sub-zero}
+use native.Mathlib.Numerals.{add-one, add-two, add-three}
+use native.Mathlib.Omega.{arith}
+use lib.ListN.{length, set, take, drop, replicate, length-drop, length-replicate}
+use lib.Seq.{sets-eq, length-take-le}
+use lib.Ieee.{Float}
+use borrow.Rule.Slice.PartMut.{midOf, putMid}
+use Rattle.time.specs.Float.{zero64}
+use Rattle.buffer.specs.declared.kind.Kind.{Kind}
+use Rattle.buffer.specs.Words.{movedUp, replaced, inserted}
+use Rattle.buffer.proofs.Moves.{length-up, put-replaced, up-put}
+use Rattle.registry.specs.Store.{Store, kindWord, placesIn, usedIn}
+use Rattle.registry.specs.Calls.{storeOf}
+use Rattle.registry.specs.addition.NewRow.{emptyRow, rowInserted, withRow}
+
+-- ---- the gap that a move up leaves
+
+-- four stores into it
+pub four-stores : (at e c p k z : ℕ) (l m : List ℕ) → at ≤ e → e + 4 ≤ length l → m ≡ movedUp at e 4 l
+    → set (set (set (set m at c) (at + 1) p) (at + 2) k) (at + 3) z ≡ inserted at e (c ∷ p ∷ k ∷ z ∷ []) l
+unfolding replaced
+four-stores at e c p k z l m h u q =
+    let v : List ℕ = c ∷ p ∷ k ∷ z ∷ [] in
+    let n : length m ≡ length l = ap length q ∙ length-up at e 4 l h u in
+    rw (add-one, add-two, add-three)
+    (sets-eq v m at (omega arith)
+    ∙ append-assoc (take at m) v (drop (at + 4) m)
+    ∙ ap (replaced at v) q
+    ∙ up-put at e 4 l v refl h u)
+
+-- or zeros
+pub zeros-put : {A : Type 0} (at e g : ℕ) (z : A) (l m c : List A) → at ≤ e → e + g ≤ length l → m ≡ movedUp at e g l
+    → c ≡ replicate (length (midOf at (at + g - at) m)) z → putMid at (at + g - at) m c ≡ inserted at e (replicate g z) l
+zeros-put {A} at e g z l m c h u q r =
+    let w : at + g - at ≡ g = omega arith in
+    let n : length m ≡ length l = ap length q ∙ length-up at e g l h u in
+    let t : length (take g (drop at m)) ≡ g = length-take-le g (drop at m) (rw length-drop (omega arith)) in
+    let s : c ≡ replicate g z = r ∙ rw (w, t) in
+    rw (w, s)
+    (put-replaced at g (replicate g z) m (length-replicate g z)
+    ∙ ap (replaced at (replicate g z)) q
+    ∙ up-put at e g l (replicate g z) (length-replicate g z) h u)
+
+-- ---- the whole row
+
+module _ (k c p : ℕ) (kind : Kind) where
+  pub row-inserted : (n at e w : ℕ) (l m : List ℕ) → k ≤ n → 9 + 4 * n ≤ length l → at ≡ 5 + 4 * k + 0 → e ≡ 5 + 4 * n + 0 → w ≡ kindWord kind
+      → m ≡ movedUp at e 4 l → set (set (set (set (set m at c) (at + 1) p) (at + 2) w) (at + 3) 0) 2 (n + 1) ≡ rowInserted k n (emptyRow c p kind) l
+  unfolding rowInserted
+  row-inserted n at e w l m h u a b v q =
+      let a₀ : at ≡ 5 + 4 * k = omega arith in
+      let b₀ : e ≡ 5 + 4 * n = omega arith in
+      ap (λ (x : List ℕ). set x 2 (n + 1))
+      (four-stores at e c p w 0 l m (omega arith) (omega arith) q ∙ (λ i. inserted (a₀ i) (b₀ i) (c ∷ p ∷ v i ∷ 0 ∷ []) l))
+
+  pub with-row : (s : Store) (h i : List ℕ) (f : List Float) (S n : ℕ) → S ≡ placesIn s → n ≡ usedIn s → h ≡ rowInserted k n (emptyRow c p kind) (s .head)
+      → i ≡ inserted (k * S) (n * S) (replicate S 0) (s .instants) → f ≡ inserted (7 * (k * S)) (7 * (n * S)) (replicate (7 * S) zero64) (s .poses)
+      → storeOf h i f ≡ withRow k (emptyRow c p kind) s
+  unfolding withRow
+  with-row s h i f S n a b x y z =
+      rw (x, y, z, a, b, sub-zero (placesIn s), sub-zero (7 * placesIn s))

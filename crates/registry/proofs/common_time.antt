@@ -1,0 +1,4 @@
+pub mod CommonHops
+pub mod CommonTimes
+pub mod Narrowing
+pub mod Spans

@@ -1,0 +1,4 @@
+pub mod Bits
+pub mod Demand3
+pub mod Histories
+pub mod Runs

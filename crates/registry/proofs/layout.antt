@@ -1,0 +1,13 @@
+pub mod Blocks
+pub mod EncodeInjective
+pub mod EncodePut
+pub mod FitBlocks
+pub mod HeadWords
+pub mod MapRows
+pub mod RowHolding
+pub mod RowParts
+pub mod RowSearch
+pub mod SizeLaws
+pub mod StoreBack
+pub mod StoreRows
+pub mod TreeRows

@@ -1,0 +1,6 @@
+pub mod Composing
+pub mod Joining
+pub mod LookupLaws
+pub mod LookupTops
+pub mod NotServed
+pub mod Refusals

@@ -1,0 +1,12 @@
+pub mod Ancestors
+pub mod AskTops
+pub mod CallsPathLaw
+pub mod Climbing
+pub mod MeetingFrame
+pub mod PathKept
+pub mod PathLaw
+pub mod Paths
+pub mod SameFrame
+pub mod SideHops
+pub mod SoundWalks
+pub mod TreeWalks

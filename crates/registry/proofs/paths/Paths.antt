@@ -1,0 +1,135 @@
+-- Connected frames are known, and what is asked of them is answered from the hops of their path.
+use Prim.Native.Nat.{ℕ, zero, suc}
+use mathlib.Core.Path.{_≡_, refl, sym, ap, _∙_}
+use mathlib.Core.Bool.{Bool, true, false, cond}
+use mathlib.Core.Option.{none, some}
+use mathlib.Core.List.{List, [], _∷_, _++_}
+use lib.ListN.{length}
+use lib.Dec.{eqb}
+use borrow.Author.Tests.{eq-eqb, ne-eqb, eqb-true, eqb-false}
+use Rattle.time.specs.Reply.{Reply, answer}
+use Rattle.buffer.specs.Map.{all, get, rising}
+use Rattle.buffer.proofs.Cases.{both, none-some, false-true}
+use Rattle.buffer.proofs.Maps.{rising-is}
+use Rattle.buffer.proofs.Alls.{all-get}
+use Rattle.registry.specs.Tree.{Edge, Tree, above, member}
+use Rattle.registry.specs.Answers.{Value}
+use Rattle.registry.specs.Path.{Hop, chain, any, side, connected, hops, isParent, known, ask}
+use Rattle.registry.specs.PathLaws.{Every, Placed}
+use Rattle.registry.proofs.paths.Climbing.{edge-or}
+
+-- ---- lists of frames
+
+pub any-elim : (p : ℕ → Bool) (xs : List ℕ) → any p xs ≡ true → (y : ℕ) × (member y xs ≡ true) × (p y ≡ true)
+any-elim p [] h = absurd (false-true h)
+any-elim p (x ∷ xs) h =
+    both (p x)
+    (λ e. (x, rw (eq-eqb x x refl), e))
+    (λ e. let found = any-elim p xs (rw e at h) in (found .0, both (eqb (found .0) x) (λ s. rw s) (λ s. rw s (found .1)), found .2))
+
+pub any-intro : (p : ℕ → Bool) (xs : List ℕ) (y : ℕ) → member y xs ≡ true → p y ≡ true → any p xs ≡ true
+any-intro p [] y h q = absurd (false-true h)
+any-intro p (x ∷ xs) y h q =
+    both (eqb y x)
+    (λ e. rw (ap p (sym (eqb-true y x e)) ∙ q))
+    (λ e. both (p x) (λ s. rw s) (λ s. rw s (any-intro p xs y (rw e at h) q)))
+
+-- ---- connected frames
+
+pub connected-sym : (t : Tree) (f g : ℕ) → connected t f g ≡ true → connected t g f ≡ true
+unfolding connected
+connected-sym t f g h =
+    let found = any-elim (λ x. member x (chain t g)) (chain t f) h in
+    any-intro (λ x. member x (chain t f)) (chain t g) (found .0) (found .2) (found .1)
+
+parent-in : (t : Tree) (x : ℕ) (e : Edge) → get t x ≡ some e → isParent (e .parent) t ≡ true
+parent-in [] x e q = absurd (none-some q)
+parent-in (y ∷ t) x e q =
+    both (eqb x (y .0))
+    (λ s. rw (eq-eqb (y .1 .parent) (e .parent) (ap (λ (d : Edge). d .parent) (some-in (rw s at q)))))
+    (λ s. both (eqb (y .1 .parent) (e .parent)) (λ z. rw z) (λ z. rw z (parent-in t x e (rw s at q))))
+  where
+    some-in : some (y .1) ≡ some e → y .1 ≡ e
+    some-in h = cc
+
+above-parent : (t : Tree) (n g f : ℕ) → member f (above n t g) ≡ true → isParent f t ≡ true
+above-parent t zero g f h = absurd (false-true h)
+above-parent t (suc n) g f h =
+    edge-or (get t g)
+    (λ q. absurd (false-true (rw q at h)))
+    (λ e q.
+    both (eqb f (e .parent))
+    (λ s. ap (λ (x : ℕ). isParent x t) (eqb-true f (e .parent) s) ∙ parent-in t g e q)
+    (λ s. above-parent t n (e .parent) f (rw s at (rw q at h))))
+
+above-none : (t : Tree) (n f : ℕ) → get t f ≡ none → above n t f ≡ []
+above-none t zero f q = refl
+above-none t (suc n) f q = rw q
+
+-- whoever is connected with another frame is known
+pub connected-known : (t : Tree) (f g : ℕ) → connected t f g ≡ true → eqb f g ≡ false → known t f ≡ true
+unfolding connected
+connected-known t f g m d =
+    edge-or (get t f)
+    (λ q.
+    let found = any-elim (λ x. member x (chain t g)) (chain t f) m in
+    let here : found .0 ≡ f = only (found .0) q (found .1) in
+    rw q (above-parent t (length t) g f (rw d at (ap (λ (x : ℕ). member x (chain t g)) (sym here) ∙ found .2))))
+    (λ e q. rw q refl)
+  where
+    only : (y : ℕ) → get t f ≡ none → member y (chain t f) ≡ true → y ≡ f
+    only y q i = both (eqb y f) (λ s. eqb-true y f s) (λ s. absurd (false-true (rw (above-none t (length t) f q) at (rw s at i))))
+
+-- ---- what is asked
+
+module _ (same : Value) (along apart : List Hop → List Hop → Reply Value) where
+  pub ask-same : (t : Tree) (f : ℕ) → ask t f f same along apart ≡ answer same
+  unfolding ask
+  ask-same t f = rw (eq-eqb f f refl)
+
+  pub ask-connected : (t : Tree) (f g : ℕ) → connected t f g ≡ true
+      → ask t f g same along apart ≡ cond (eqb f g) (answer same) (along (hops t (side t f g)) (hops t (side t g f)))
+  unfolding ask
+  ask-connected t f g m =
+      both (eqb f g)
+      (λ s. rw s)
+      (λ s.
+      rw (s, connected-known t f g m s, connected-known t g f (connected-sym t f g m) (ne-eqb g f (λ z. eqb-false f g s (sym z))), m))
+
+-- the path of a frame and itself is empty
+pub side-same : (t : Tree) (f : ℕ) → side t f f ≡ []
+unfolding side
+side-same t f = rw (eq-eqb f f refl)
+
+-- what every row of a tree passes, every hop passes
+pub hops-pass : (test : ℕ × Edge → Bool) (t : Tree) → rising t ≡ true → all test t ≡ true → (xs : List ℕ) → Every (λ h. test h ≡ true) (hops t xs)
+hops-pass test t r k [] = tt
+hops-pass test t r k (x ∷ xs) =
+    edge-or (get t x)
+    (λ q. rw q (hops-pass test t r k xs))
+    (λ e q. rw q (all-get test t (rising-is t .0 r) .0 k x e q, hops-pass test t r k xs))
+
+-- ---- lists of hops
+
+pub every-unit : (hs : List Hop) → Every (λ x. Unit {0}) hs
+every-unit [] = tt
+every-unit (h ∷ hs) = (tt, every-unit hs)
+
+pub every-here : (P : Hop → Type 0) (before : List Hop) (h : Hop) (after : List Hop) → Every P (before ++ (h ∷ after)) → P h
+every-here P [] h after k = k .0
+every-here P (x ∷ before) h after k = every-here P before h after (k .1)
+
+pub every-append : (P : Hop → Type 0) (xs ys : List Hop) → Every P xs → Every P ys → Every P (xs ++ ys)
+every-append P [] ys k l = l
+every-append P (x ∷ xs) ys k l = (k .0, every-append P xs ys (k .1) l)
+
+module _ (P Q : Hop → Type 0) (h : Hop) where
+  -- one more hop, before the others
+  pub placed-behind : (x : Hop) (hs : List Hop) → P x → Placed P h Q hs → Placed P h Q (x ∷ hs)
+  placed-behind x hs k p = record {
+    before = x ∷ p .before;
+    after = p .after;
+    place = ap {B = List Hop} (λ r. x ∷ r) (p .place);
+    earlier = (k, p .earlier);
+    later = p .later;
+  }

@@ -1,0 +1,61 @@
+-- `registry::paths::frames::is_parent` meets its contract. The invariant of its loop: no row that was passed has the frame as parent.
+use Prim.Native.Nat.{ℕ, _-_, _≤_, _<_}
+use mathlib.Core.Path.{_≡_, sym, _∙_}
+use native.Mathlib.Omega.{arith}
+use borrow.Author.Count.{below-more}
+use Rattle.registry.specs.Store.{rowWord}
+use Rattle.registry.specs.layout.Rows.{headOf}
+use Rattle.registry.proofs.paths.TreeWalks.{parent-found, parent-nowhere}
+use Rattle.registry.proofs.paths.frames.is_parent.Statement.{statement}
+use Rattle.registry.proofs.paths.frames.is_parent.Tie as tie
+
+abbrev Inv-loop : tie.InvT-loop
+Inv-loop head used frame row₀ row = (row ≤ used) × ((r : ℕ) → r < row → rowWord (headOf head) r 1 ≡ frame → ⊥)
+
+abbrev μ-loop : tie.MeasureT-loop
+μ-loop head used frame row₀ row = used - row
+
+loop-holds : tie.Need-loop-holds Inv-loop μ-loop
+loop-holds c = (omega arith, λ r l. absurd (omega arith))
+
+parent-at-requires : tie.Need-parent-at-requires Inv-loop μ-loop
+parent-at-requires c κs = omega (arith, c .before .before .before .pre .within)
+
+returns : tie.Need-returns Inv-loop μ-loop
+returns c =
+    let s = c .before .before .before .before .before in
+    let a = s .args in
+    parent-found (a .head .now) (a .used) (s .pre) (a .frame) _ (omega arith) (sym (c .before .parent-at .ensures) ∙ c .if1 .taken)
+
+add-row : tie.Need-add-row Inv-loop μ-loop
+add-row c = omega arith
+
+loop-less : tie.Need-loop-less Inv-loop μ-loop
+loop-less c = omega arith
+
+loop-again : tie.Need-loop-again Inv-loop μ-loop
+loop-again c = (
+  omega arith,
+  below-more _ _ (c .before .before .before .loop .inv .1) (λ q. c .if1 .left (c .before .parent-at .ensures ∙ q)),
+)
+
+returns-2 : tie.Need-returns-2 Inv-loop μ-loop
+returns-2 c =
+    let s = c .before .before .before in
+    let a = s .args in
+    let l = c .before .loop in
+    parent-nowhere (a .head .now) (a .used) (s .pre) (a .frame) (λ r u. l .inv .1 r (omega arith))
+
+pub is-parent-spec : {M : Type 1} → statement M
+is-parent-spec =
+    tie.close
+    (tie.spec
+    Inv-loop
+    μ-loop
+    loop-holds
+    parent-at-requires
+    returns
+    add-row
+    loop-less
+    loop-again
+    returns-2)

@@ -1,0 +1,2 @@
+pub mod RowWiping
+pub mod Wiped

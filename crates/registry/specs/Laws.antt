@@ -1,0 +1,79 @@
+-- What holds of sound stores and of their trees. Proved in proofs/ under the same names.
+use Prim.Native.Nat.{ℕ, _^_, _≤_, _<_}
+use mathlib.Core.Path.{_≡_}
+use mathlib.Core.Logic.{_↔_}
+use mathlib.Core.Bool.{true}
+use lib.ListN.{length}
+use Rattle.time.specs.Reply.{answer}
+use Rattle.buffer.specs.Map.{all, rising}
+use Rattle.buffer.specs.Row.{instantsSound, posesSound, FloatsFit}
+use Rattle.registry.specs.Tree.{Tree, Limits, Addition, add, wipe}
+use Rattle.registry.specs.Store.{Store, encode, treeOf, limitsOf, usedIn, sized}
+use Rattle.registry.specs.Sound.{framesFit, parentsDiffer, noCircle, NotAboveItself, sound}
+use Rattle.registry.specs.declared.answer.Answer.{Answer}
+use Rattle.registry.specs.Answers.{done, replyOf}
+use Rattle.registry.specs.Calls.{openOf}
+
+-- "no circle", which climbs decide, means that no frame is above itself
+abbrev pub NoCircle : Type 0
+NoCircle = (t : Tree) → rising t ≡ true → (noCircle t ≡ true) ↔ NotAboveItself t
+
+-- ---- words and trees
+
+-- "E is 1 to 256, S is 1 to 1,024"
+pub record InRange (rows places : ℕ) : Type 0 where
+  pub someRows : 1 ≤ rows
+  pub fewRows : rows ≤ 256
+  pub somePlaces : 1 ≤ places
+  pub fewPlaces : places ≤ 1024
+
+-- what "sound means" asks of a tree
+pub record SoundTree (L : Limits) (t : Tree) : Type 0 where
+  pub few : length t ≤ L .rows
+  pub rises : rising t ≡ true
+  pub frames : framesFit t ≡ true
+  pub parents : parentsDiffer t ≡ true
+  pub circles : noCircle t ≡ true
+  pub instants : all (λ x. instantsSound (L .age) (L .places) (x .1 .kind) (x .1 .samples)) t ≡ true
+  pub poses : all (λ x. posesSound (x .1 .samples)) t ≡ true
+
+-- a sound store is the words of the tree that it holds, and that tree is sound
+abbrev pub SoundIsEncoded : Type 0
+SoundIsEncoded = (s : Store) → FloatsFit (s .poses) → sized s ≡ true → sound s ≡ true
+    → (s ≡ encode (limitsOf s) (treeOf s)) × SoundTree (limitsOf s) (treeOf s)
+
+-- the words of a sound tree are a sound store
+abbrev pub EncodedIsSound : Type 0
+EncodedIsSound = (L : Limits) (t : Tree) → InRange (L .rows) (L .places) → SoundTree L t → (sized (encode L t) ≡ true) × (sound (encode L t) ≡ true)
+
+-- two sound trees with the same words are one
+abbrev pub EncodeInjective : Type 0
+EncodeInjective = (L : Limits) (t u : Tree) → 1 ≤ L .places → SoundTree L t → SoundTree L u → encode L t ≡ encode L u → t ≡ u
+
+-- ---- what calls leave
+
+-- a sound store of these sizes and this age, with no row used
+pub record FreshStore (L : Limits) (s : Store) : Type 0 where
+  pub sizes : sized s ≡ true
+  pub rules : sound s ≡ true
+  pub named : limitsOf s ≡ L
+  pub unused : usedIn s ≡ 0
+
+-- "Unless refused, opening overwrites everything and leaves a sound store of the named sizes and age, .. with no row used"
+abbrev pub OpenedIsSound : Type 0
+OpenedIsSound = (s : Store) (L : Limits) → openOf s L .reply ≡ answer done → FreshStore L (openOf s L .store)
+
+-- an addition of 32-bit frames that is answered leaves a sound tree sound
+abbrev pub AddKeepsSound : Type 0
+AddKeepsSound = (L : Limits) (t u : Tree) (a : Addition) → a .child < 2 ^ 32 → a .parent < 2 ^ 32 → SoundTree L t
+    → add L t a ≡ answer u → SoundTree L u
+
+-- a wipe that is answered leaves a sound tree sound
+abbrev pub WipeKeepsSound : Type 0
+WipeKeepsSound = (L : Limits) (t u : Tree) (f i : ℕ) → SoundTree L t → wipe t f i ≡ answer u → SoundTree L u
+
+-- ---- answers
+
+-- a reply fixes the enum's case and its values
+abbrev pub ReplyInjective : Type 0
+ReplyInjective = (a b : Answer) → replyOf a ≡ replyOf b → a ≡ b

@@ -1,0 +1,89 @@
+-- The walks up from two frames, as the contracts of the private functions cite them. No public contract rests on these.
+use Prim.Native.Nat.{ℕ, _+_, _*_, _^_, _≤_, _<_}
+use mathlib.Core.Path.{_≡_}
+use mathlib.Core.Bool.{true, cond}
+use mathlib.Core.List.{List, []}
+use lib.Dec.{eqb}
+use lib.ListN.{length}
+use lib.Ieee.{Float}
+use Rattle.time.specs.Reply.{Reply, answer, refusal, frame, _then_}
+use Rattle.buffer.specs.Row.{Instants, Row}
+use Rattle.registry.specs.declared.paths.meeting.Climb.{Climb}
+use Rattle.registry.specs.declared.paths.meeting.Climb.the-variants.{Met, Root}
+use Rattle.registry.specs.declared.paths.frames.Endpoints.{Endpoints}
+use Rattle.registry.specs.declared.paths.frames.Endpoints.the-variants.{Same, Unknown, Known}
+use Rattle.registry.specs.Tree.{Tree, ancestors, member}
+use Rattle.registry.specs.Store.{Store, placesIn, rowWord, rowInstants, rowPoses, treeOf}
+use Rattle.registry.specs.Sound.{noCircle}
+use Rattle.registry.specs.Answers.{Value, at}
+use Rattle.registry.specs.Calls.{storeOf}
+use Rattle.registry.specs.layout.Rows.{childAt, RisingRows}
+use Rattle.registry.specs.Path.{Hop, chain, until, side, connected, hops, ask}
+
+-- P of the tree with this head, whatever its instants and poses
+abbrev pub OfTree : List ℕ → (Tree → Type 0) → Type 0
+OfTree h P = (instants : List ℕ) (poses : List Float) → P (treeOf (storeOf h instants poses))
+
+-- the hops from f up to the frame top, or to the root where top is not above f
+abbrev pub hopsTo : Tree → ℕ → ℕ → List Hop
+hopsTo t f top = hops t (until (eqb top) (chain t f))
+
+-- how the climb from f towards the goal ends: the goal is above f, or this many frames are
+abbrev pub ClimbsTo : Tree → ℕ → ℕ → Climb → Type 0
+ClimbsTo t f goal Met = member goal (ancestors t f) ≡ true
+ClimbsTo t f goal (Root n) = n ≡ length (ancestors t f)
+
+-- The climbs from f and g end at x and y: at one frame exactly when f and g are connected, and then it is the one where they meet; else at the roots.
+pub record AreTops (t : Tree) (f g x y : ℕ) : Type 0 where
+  pub meets : connected t f g ≡ eqb x y
+  pub target : hopsTo t f x ≡ hops t (side t f g)
+  pub source : hopsTo t g y ≡ hops t (side t g f)
+
+-- ---- what the functions on a row ask of their callers
+
+-- row r lies within the head and the instants, and its held instants rise
+pub record HeldInstants (s : Store) (r : ℕ) : Type 0 where
+  pub head : 8 + 4 * r < length (s .head)
+  pub within : r * placesIn s + placesIn s ≤ length (s .instants)
+  pub held : Instants (rowWord s r 3) (rowInstants s r)
+
+-- row r lies within the three slices, and its samples are those of a row
+pub record HeldRow (s : Store) (r : ℕ) : Type 0 where
+  pub instants : HeldInstants s r
+  pub within : 7 * (r * placesIn s + placesIn s) ≤ length (s .poses)
+  pub held : Row (rowWord s r 3) (rowInstants s r) (rowPoses s r)
+
+-- ---- what the walks ask of their callers
+
+-- the rows of a head in use and their instants
+pub record Walkable (n : ℕ) (h instants : List ℕ) : Type 0 where
+  pub rows : RisingRows n h
+  pub circles : OfTree h (λ t. noCircle t ≡ true)
+  pub frames : (r : ℕ) → r < n → childAt h r < 2 ^ 32
+  pub held : (r : ℕ) → r < n → HeldInstants (storeOf h instants []) r
+
+-- and their poses
+pub record Posed (n : ℕ) (s : Store) : Type 0 where
+  pub walk : Walkable n (s .head) (s .instants)
+  pub held : (r : ℕ) → r < n → HeldRow s r
+
+-- ---- what the private functions answer
+
+-- what is asked of two frames that are known and differ: the rest of `ask`
+abbrev pub askKnown : Tree → ℕ → ℕ → (List Hop → List Hop → Reply Value) → (List Hop → List Hop → Reply Value) → Reply Value
+askKnown t target source along apart =
+    cond (connected t target source)
+    (along (hops t (side t target source)) (hops t (side t source target)))
+    (apart (hops t (chain t target)) (hops t (chain t source)))
+
+-- the start of `ask`, by what the two frames are
+abbrev pub askBy : Endpoints → Value → Reply Value → Reply Value
+askBy Same same known = answer same
+askBy (Unknown f) same known = refusal 9 (frame f)
+askBy Known same known = known
+
+-- every question about target and source begins so
+abbrev pub AskedBy : Tree → ℕ → ℕ → Endpoints → Type 0
+AskedBy t target source e =
+    (same : Value) (along apart : List Hop → List Hop → Reply Value)
+    → askBy e same (askKnown t target source along apart) ≡ ask t target source same along apart

@@ -1,0 +1,2 @@
+// Latest common time, on a store that is sized and sound.
+pub(crate) mod common;

@@ -1,0 +1,102 @@
+// The poses of a path's two sides, composed while climbing.
+use crate::answer::Answer;
+use crate::answer::Covered;
+use crate::layout::find;
+use crate::layout::find::Found;
+use crate::layout::head;
+use crate::paths::row;
+use buffer::get::Got;
+use geometry::isometry::Isometry;
+use geometry::transform;
+ghost use mathlib.Core.Path.{_≡_};
+ghost use mathlib.Core.Option.{none};
+ghost use Rattle.time.specs.Reply.{answer, _then_};
+ghost use Rattle.registry.specs.Store.{treeOf};
+ghost use Rattle.registry.specs.Answers.{pose, replyOf};
+ghost use Rattle.registry.specs.Calls.{storeOf};
+ghost use Rattle.registry.specs.Path.{onto, fold, joined};
+ghost use Rattle.registry.specs.lookup.Sides.{sideOf, composedReply};
+ghost use Rattle.registry.specs.paths.Walks.{hopsTo, Posed};
+
+// The product of a side's poses, if it has a hop.
+pub(crate) enum Side {
+    Empty,
+    Product(Isometry),
+}
+
+// A side's product, or its first hop that is not served.
+pub(crate) enum Composed {
+    Side(Side),
+    NotFoundAt(u32, Covered),
+}
+
+// The pose, on the left of a side.
+fn onto(pose: Isometry, side: Side) -> Isometry
+    ensures { λ r. ⌜ r ≡ onto pose (sideOf side) ⌝ }
+{
+    let Side::Product(below) = side else {
+        return pose;
+    };
+    pose.mul(below)
+}
+
+// From the frame up to the frame `top`, or to the root.
+pub(crate) fn compose_chain(
+    head: &[u64],
+    instants: &[u64],
+    poses: &[f64],
+    used: usize,
+    frame: u64,
+    top: u64,
+    t: u64,
+) -> Composed
+    requires { ⌜ Posed used (storeOf (now head) (now instants) (now poses)) ⌝ }
+    ensures { λ r. ⌜ composedReply r ≡ fold none (hopsTo (treeOf (storeOf (now (head .entry)) (now (instants .entry)) (now (poses .entry)))) frame top) t ⌝ }
+{
+    let mut at = frame;
+    let mut below = Side::Empty;
+    while at != top {
+        let found = find::find_row(head, used, at);
+        let Found::At(row) = found else {
+            return Composed::Side(below);
+        };
+        let got = row::sample(head, instants, poses, row, t);
+        let pose = match got {
+            Got::Pose(pose) => pose,
+            Got::OutOfRange { start, end } => {
+                return Composed::NotFoundAt(at as u32, Covered::Range { start, end });
+            }
+            Got::NoTransformAvailable => {
+                return Composed::NotFoundAt(at as u32, Covered::Nothing);
+            }
+        };
+        below = Side::Product(onto(pose, below));
+        at = head::parent_at(head, row);
+    }
+    Composed::Side(below)
+}
+
+// A side's pose, and identity for an empty one.
+fn alone(side: Side) -> Isometry
+    ensures { λ r. ⌜ answer r ≡ joined none (sideOf side) ⌝ }
+{
+    let Side::Product(pose) = side else {
+        return Isometry::identity();
+    };
+    pose
+}
+
+// inverse(target side) times source side; an empty side is left out.
+pub(crate) fn combine_transforms(target: Side, source: Side) -> Answer
+    ensures { λ r. ⌜ replyOf r ≡ (joined (sideOf target) (sideOf source) then λ p. answer (pose p)) ⌝ }
+{
+    let Side::Product(side) = target else {
+        return Answer::Pose(alone(source));
+    };
+    match side.inverse() {
+        transform::Answer::Pose(back) => Answer::Pose(onto(back, source)),
+        transform::Answer::NonFinite => Answer::NonFinite,
+        transform::Answer::ZeroLengthNormalization => Answer::ZeroLengthNormalization,
+        _ => Answer::NonFiniteValues,
+    }
+}

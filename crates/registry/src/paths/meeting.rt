@@ -1,0 +1,118 @@
+// Where the climbs from two frames end.
+use crate::layout::find;
+use crate::layout::find::Found;
+use crate::layout::head;
+ghost use mathlib.Core.Path.{_≡_};
+ghost use mathlib.Core.Bool.{true};
+ghost use lib.ListN.{length};
+ghost use Rattle.registry.specs.Tree.{ancestors};
+ghost use Rattle.registry.specs.Sound.{climb, noCircle};
+ghost use Rattle.registry.specs.layout.Rows.{RisingRows};
+ghost use Rattle.registry.specs.paths.Walks.{OfTree, ClimbsTo, AreTops};
+
+// The frame's parent, or the frame itself where it is no child.
+fn step_up(head: &[u64], used: usize, frame: u64) -> u64
+    requires { ⌜ RisingRows used (now head) ⌝ }
+    ensures { λ r. ⌜ OfTree (now (head .entry)) (λ t. r ≡ climb 1 t frame) ⌝ }
+{
+    let found = find::find_row(head, used, frame);
+    let Found::At(row) = found else {
+        return frame;
+    };
+    head::parent_at(head, row)
+}
+
+// How a climb towards a frame ends: at that frame, or at the root, after so many steps.
+pub(crate) enum Climb {
+    Met,
+    Root(usize),
+}
+
+// From the frame up until the goal is met, by at most as many steps as there are rows.
+fn climb_to(head: &[u64], used: usize, frame: u64, goal: u64) -> Climb
+    requires { ⌜ RisingRows used (now head) ⌝ }
+    ensures { λ r. ⌜ OfTree (now (head .entry)) (λ t. ClimbsTo t frame goal r) ⌝ }
+{
+    let mut at = frame;
+    let mut steps = 0;
+    while steps < used {
+        let found = find::find_row(head, used, at);
+        let Found::At(row) = found else {
+            return Climb::Root(steps);
+        };
+        at = head::parent_at(head, row);
+        if at == goal {
+            return Climb::Met;
+        }
+        steps += 1;
+    }
+    Climb::Root(steps)
+}
+
+// Where the climbs from two frames end: both at the frame where they meet, or each at its root.
+pub(crate) struct Tops {
+    pub(crate) target: u64,
+    pub(crate) source: u64,
+}
+
+// Of frames with so many frames above them: whichever lies deeper climbs, until they meet or are
+// both at a root.
+fn climb_both(
+    head: &[u64],
+    used: usize,
+    target: u64,
+    source: u64,
+    above_target: usize,
+    above_source: usize,
+) -> Tops
+    requires { ⌜ RisingRows used (now head)
+        × OfTree (now head) (λ t. «above_target» ≡ length (ancestors t target))
+        × OfTree (now head) (λ t. «above_source» ≡ length (ancestors t source)) ⌝ }
+    ensures { λ r. ⌜ OfTree (now (head .entry)) (λ t. noCircle t ≡ true → AreTops t target source (r .target) (r .source)) ⌝ }
+{
+    let mut f = target;
+    let mut g = source;
+    let mut above_f = above_target;
+    let mut above_g = above_source;
+    while f != g {
+        if above_f < above_g {
+            g = step_up(head, used, g);
+            above_g -= 1;
+        } else {
+            if above_f == 0 {
+                return Tops {
+                    target: f,
+                    source: g,
+                };
+            }
+            f = step_up(head, used, f);
+            above_f -= 1;
+        }
+    }
+    Tops {
+        target: f,
+        source: g,
+    }
+}
+
+// Where one is above the other, that is the frame where they meet, and the climb to it suffices.
+pub(crate) fn meeting(head: &[u64], used: usize, target: u64, source: u64) -> Tops
+    requires { ⌜ RisingRows used (now head) ⌝ }
+    ensures { λ r. ⌜ OfTree (now (head .entry)) (λ t. noCircle t ≡ true → AreTops t target source (r .target) (r .source)) ⌝ }
+{
+    let from_target = climb_to(head, used, target, source);
+    let Climb::Root(above_target) = from_target else {
+        return Tops {
+            target: source,
+            source,
+        };
+    };
+    let from_source = climb_to(head, used, source, target);
+    let Climb::Root(above_source) = from_source else {
+        return Tops {
+            target,
+            source: target,
+        };
+    };
+    climb_both(head, used, target, source, above_target, above_source)
+}

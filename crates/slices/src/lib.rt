@@ -1,2 +1,0 @@
-// Slices of words and of floats.
-pub mod words;

@@ -1,2 +1,0 @@
-// The rules of one row's words.
-pub mod sound;
