@@ -9,4 +9,5 @@ pub mod Paths
 pub mod SameFrame
 pub mod SideHops
 pub mod SoundWalks
+pub mod Tops
 pub mod TreeWalks

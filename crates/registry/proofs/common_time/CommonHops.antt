@@ -12,8 +12,10 @@ use Rattle.registry.specs.declared.common_time.common.Narrowed.{Narrowed
 use Rattle.registry.specs.Tree.{Tree}
 use Rattle.registry.specs.Answers.{Value}
 use Rattle.registry.specs.Path.{Hop, Span, spanThen, spans, earliestEnd, latestStart, meet}
-use Rattle.registry.specs.paths.Walks.{hopsTo, AreTops, askKnown}
+use Rattle.registry.specs.paths.Walks.{hopsTo, askKnown}
 use Rattle.registry.specs.common_time.Spans.{Sofar, narrow, narrowBy, narrowed, agreed, narrowedReply}
+use Rattle.registry.proofs.paths.Climbing.{Grounded}
+use Rattle.registry.proofs.paths.Tops.{EndAt}
 use Rattle.registry.proofs.paths.AskTops.{ask-tops}
 
 -- by one span after the other
@@ -70,16 +72,16 @@ sides-agree a b = assoc (narrowed none a) ∙ ap (λ (r : Reply Sofar). r then a
 abbrev pub commonKnown : Tree → ℕ → ℕ → Reply Value
 commonKnown t f g = askKnown t f g (λ a b. spans (a ++ b) then meet) (λ a b. refusal 10 nothing)
 
-module _ (t : Tree) (f g x y : ℕ) (tops : AreTops t f g x y) where
+module _ (t : Tree) (gr : Grounded t) (f g x y : ℕ) (ends : EndAt t f g x y) where
   pub common-apart : (x ≡ y → ⊥) → refusal 10 nothing ≡ commonKnown t f g
-  common-apart ne = sym (ask-tops (λ a b. spans (a ++ b) then meet) (λ a b. refusal 10 nothing) t f g x y tops ∙ rw (ne-eqb x y ne))
+  common-apart ne = sym (ask-tops (λ a b. spans (a ++ b) then meet) (λ a b. refusal 10 nothing) t f g gr x y ends ∙ rw (ne-eqb x y ne))
 
   -- the target's side narrows to a, and then the source's
   pub common-meets : x ≡ y → (a : Reply Sofar) → a ≡ narrowed none (hopsTo t f x) → (a then λ c. narrowed c (hopsTo t g y) then agreed) ≡ commonKnown t f g
   common-meets e a p =
       rw p
       (sides-agree (hopsTo t f x) (hopsTo t g y)
-      ∙ sym (ask-tops (λ a b. spans (a ++ b) then meet) (λ a b. refusal 10 nothing) t f g x y tops ∙ rw (eq-eqb x y e)))
+      ∙ sym (ask-tops (λ a b. spans (a ++ b) then meet) (λ a b. refusal 10 nothing) t f g gr x y ends ∙ rw (eq-eqb x y e)))
 
 -- what a climb gave, g, is v
 pub narrowed-is : (g v : Narrowed) (r : Reply Sofar) → g ≡ v → narrowedReply g ≡ r → narrowedReply v ≡ r

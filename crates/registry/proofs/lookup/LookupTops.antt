@@ -8,13 +8,14 @@ use lib.Dec.{eqb}
 use borrow.Author.Tests.{eq-eqb, ne-eqb}
 use Rattle.time.specs.Reply.{Reply, answer, refusal, nothing, _then_}
 use Rattle.geometry.specs.declared.isometry.Isometry.{Isometry}
-use Rattle.buffer.proofs.Cases.{both}
 use Rattle.registry.specs.declared.lookup.compose.Composed.{Composed}
 use Rattle.registry.specs.Tree.{Tree}
 use Rattle.registry.specs.Answers.{pose}
 use Rattle.registry.specs.Path.{Hop, fold, joined, lookupAlong, lookupApart}
-use Rattle.registry.specs.paths.Walks.{hopsTo, AreTops, askKnown}
+use Rattle.registry.specs.paths.Walks.{hopsTo, askKnown}
 use Rattle.registry.specs.lookup.Sides.{composedReply}
+use Rattle.registry.proofs.paths.Climbing.{Grounded}
+use Rattle.registry.proofs.paths.Tops.{EndAt}
 use Rattle.registry.proofs.paths.AskTops.{ask-tops}
 
 -- both sides are folded before it is told whether they meet
@@ -28,11 +29,11 @@ fold-both false i a b = refl
 pub composed-is : (c v : Composed) (r : Reply (Option Isometry)) → c ≡ v → composedReply c ≡ r → composedReply v ≡ r
 composed-is c v r e h = sym (ap composedReply e) ∙ h
 
-module _ (t : Tree) (f g x y i : ℕ) (tops : AreTops t f g x y) where
+module _ (t : Tree) (gr : Grounded t) (f g x y i : ℕ) (ends : EndAt t f g x y) where
   pub lookup-tops : (a b : Reply (Option Isometry)) → a ≡ fold none (hopsTo t f x) i → b ≡ fold none (hopsTo t g y) i
       → (a then λ p. b then λ q. cond (eqb x y) (joined p q then λ r. answer (pose r)) (refusal 10 nothing)) ≡ askKnown t f g (lookupAlong i) (lookupApart i)
   lookup-tops a b p q =
-      rw (p, q) (fold-both (eqb x y) i (hopsTo t f x) (hopsTo t g y) ∙ sym (ask-tops (lookupAlong i) (lookupApart i) t f g x y tops))
+      rw (p, q) (fold-both (eqb x y) i (hopsTo t f x) (hopsTo t g y) ∙ sym (ask-tops (lookupAlong i) (lookupApart i) t f g gr x y ends))
 
   module _ (a b : Option Isometry) (p : answer a ≡ fold none (hopsTo t f x) i) (q : answer b ≡ fold none (hopsTo t g y) i) where
     pub lookup-apart : (x ≡ y → ⊥) → refusal 10 nothing ≡ askKnown t f g (lookupAlong i) (lookupApart i)

@@ -12,8 +12,10 @@ use Rattle.registry.specs.declared.paths.frames.Endpoints.the-variants.{
 use Rattle.registry.specs.Tree.{Tree, member}
 use Rattle.registry.specs.Answers.{Value}
 use Rattle.registry.specs.Path.{Hop, chain, until, any, side, connected, hops, known, ask}
-use Rattle.registry.specs.paths.Walks.{hopsTo, AreTops, askKnown, AskedBy}
+use Rattle.registry.specs.paths.Walks.{hopsTo, askKnown, AskedBy}
+use Rattle.registry.proofs.paths.Climbing.{Grounded}
 use Rattle.registry.proofs.paths.Paths.{connected-sym}
+use Rattle.registry.proofs.paths.Tops.{EndAt, tops-meet, hops-top}
 
 -- ---- without a path
 
@@ -63,9 +65,12 @@ module _ (along apart : List Hop → List Hop → Reply Value) (t : Tree) (f g :
       let back : connected t g f ≡ false = both (connected t g f) (λ h. absurd (false-true (sym e ∙ connected-sym t g f h))) (λ h. h) in
       rw e (λ i. apart (hops t (sym (side-apart t f g e) i)) (hops t (sym (side-apart t g f back) i))))
 
-  pub ask-tops : (x y : ℕ) → AreTops t f g x y
+  pub ask-tops : Grounded t → (x y : ℕ) → EndAt t f g x y
       → askKnown t f g along apart ≡ cond (eqb x y) (along (hopsTo t f x) (hopsTo t g y)) (apart (hopsTo t f x) (hopsTo t g y))
-  ask-tops x y tops =
-      let a = sym (tops .target) in
-      let b = sym (tops .source) in
-      by-sides ∙ λ i. cond (tops .meets i) (along (a i) (b i)) (apart (a i) (b i))
+  ask-tops gr x y ends =
+      let p = sym (ends .0) in
+      let q = sym (ends .1) in
+      let a = sym (hops-top t gr f g) ∙ ap (hopsTo t f) p in
+      let b = sym (hops-top t gr g f) ∙ ap (hopsTo t g) q in
+      let meets = tops-meet t gr f g ∙ (λ i. eqb (p i) (q i)) in
+      by-sides ∙ λ i. cond (meets i) (along (a i) (b i)) (apart (a i) (b i))

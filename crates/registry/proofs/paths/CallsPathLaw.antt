@@ -23,7 +23,7 @@ use Rattle.registry.proofs.layout.SizeLaws.{sized-is}
 use Rattle.registry.proofs.soundness.Rules.{sound-is}
 use Rattle.registry.proofs.soundness.SoundIsEncoded.{sound-tree}
 use Rattle.registry.proofs.soundness.EncodedIsSound.{encodedIsSound}
-use Rattle.registry.proofs.soundness.Called.{called}
+use Rattle.registry.proofs.soundness.Called.{finds-sound, called}
 use Rattle.registry.proofs.soundness.AddKeepsSound.{addKeepsSound}
 use Rattle.registry.proofs.soundness.WipeKeepsSound.{wipeKeepsSound}
 use Rattle.registry.proofs.paths.PathLaw.{pathLaw, pathLawWipe}
@@ -50,14 +50,14 @@ module _ (s : Store) (h : SoundStore s) where
   asked-encoded u k ask =
       let L = limitsOf s in
       let e = encodedIsSound L u range k in
-      sym (called (encode L u) (λ L t. ask t) Sound (record { sizes = e .0; rules = e .1 }))
+      sym (called (encode L u) Sound (finds-sound (encode L u) (record { sizes = e .0; rules = e .1 })) (λ L t. ask t))
       ∙ ap ask (tree-back L u (sound-fits L u (range .somePlaces) k))
 
   same-replies : (u : Tree) → SoundTree (limitsOf s) u → (f g : ℕ) → SameAnswers (treeOf s) u f g → SameReplies s (encode (limitsOf s) u) f g
   unfolding lookupOf commonTimeOf
   same-replies u k f g same = record {
-    lookups = λ i. asked-encoded u k (λ t. lookup t f g i) ∙ same .lookups i ∙ called s (λ L t. lookup t f g i) Sound h;
-    commonTimes = asked-encoded u k (λ t. commonTime t f g) ∙ same .commonTimes ∙ called s (λ L t. commonTime t f g) Sound h;
+    lookups = λ i. asked-encoded u k (λ t. lookup t f g i) ∙ same .lookups i ∙ called s Sound (finds-sound s h) (λ L t. lookup t f g i);
+    commonTimes = asked-encoded u k (λ t. commonTime t f g) ∙ same .commonTimes ∙ called s Sound (finds-sound s h) (λ L t. commonTime t f g);
   }
 
 -- a call that is answered with done leaves the words of the tree that it answers

@@ -1,20 +1,22 @@
--- A step up, the depth of a frame and whether it is a parent, by the rows that a search finds.
+-- A step up, the depth of a frame, how a climb towards a goal ends and whether a frame is a parent, by the rows that a search finds.
 use Prim.Native.Nat.{ℕ, zero, suc, _+_, _-_, _≤_, _<_}
 use mathlib.Core.Path.{_≡_, refl, sym, ap, _∙_}
-use mathlib.Core.Bool.{true, false}
+use mathlib.Core.Bool.{Bool, true, false}
 use mathlib.Core.List.{List, [], _∷_}
 use native.Mathlib.Omega.{arith}
 use lib.ListN.{length, getD}
 use lib.Dec.{eqb}
 use borrow.Author.Tests.{eq-eqb, ne-eqb}
 use Rattle.buffer.proofs.Cases.{both}
-use Rattle.registry.specs.Tree.{Edge, Tree, above, ancestors}
+use Rattle.registry.specs.declared.paths.meeting.Climb.{Climb}
+use Rattle.registry.specs.declared.paths.meeting.Climb.the-variants.{Met, Root}
+use Rattle.registry.specs.Tree.{Edge, Tree, above, ancestors, member}
 use Rattle.registry.specs.Store.{rowWord, treeOf}
 use Rattle.registry.specs.Sound.{climb}
 use Rattle.registry.specs.Calls.{storeOf}
 use Rattle.registry.specs.Path.{isParent, known}
 use Rattle.registry.specs.layout.Rows.{headOf, UsedRows, RisingRows, IsRow, IsAbsent}
-use Rattle.registry.specs.paths.Walks.{OfTree}
+use Rattle.registry.specs.paths.Walks.{OfTree, climbTo}
 use Rattle.registry.proofs.layout.StoreBack.{blank}
 use Rattle.registry.proofs.layout.TreeRows.{length-tree, tree-row, get-found, get-absent}
 use Rattle.registry.proofs.soundness.CircleWalk.{above-root, above-up}
@@ -92,3 +94,36 @@ module _ (h : List ℕ) (n : ℕ) (rows : RisingRows n h) where
           ap (λ (m : ℕ). length (above m (treeOf s) at)) q,
           ap length (above-up (treeOf s) (n - (steps + 1)) at _ (get-found s n (rows .rows .held) (rows .rises) at r found)),
         )
+
+-- ---- how a climb towards a goal ends
+
+abbrev isMet : Climb → Bool
+isMet Met = true
+isMet (Root n) = false
+
+abbrev countOf : Climb → ℕ
+countOf Met = 0
+countOf (Root n) = n
+
+is-met : (t : Tree) (f goal : ℕ) → isMet (climbTo t f goal) ≡ member goal (ancestors t f)
+is-met t f goal = both (member goal (ancestors t f)) (λ m. rw m) (λ m. rw m)
+
+module _ (h : List ℕ) (f goal : ℕ) where
+  pub climb-met : OfTree h (λ t. true ≡ member goal (ancestors t f)) → OfTree h (λ t. Met ≡ climbTo t f goal)
+  climb-met m i p = sym (rw (← m i p))
+
+  pub climb-root : (n : ℕ) → OfTree h (λ t. false ≡ member goal (ancestors t f)) → OfTree h (λ t. n ≡ length (ancestors t f))
+      → OfTree h (λ t. Root n ≡ climbTo t f goal)
+  climb-root n m e i p = ap Root (e i p) ∙ sym (rw (← m i p))
+
+  -- what the climb found, r, is a case of it
+  module _ (r : Climb) (w : OfTree h (λ t. r ≡ climbTo t f goal)) where
+    pub met-above : r ≡ Met → OfTree h (λ t. member goal (ancestors t f) ≡ true)
+    met-above e i p = sym (is-met (treeOf (storeOf h i p)) f goal) ∙ ap isMet (sym (w i p) ∙ e)
+
+    pub root-count : (n : ℕ) → r ≡ Root n → OfTree h (λ t. n ≡ length (ancestors t f))
+    root-count n e i p =
+        let t : Tree = treeOf (storeOf h i p) in
+        let out : member goal (ancestors t f) ≡ false = sym (is-met t f goal) ∙ ap isMet (sym (w i p) ∙ e) in
+        let found : climbTo t f goal ≡ Root (length (ancestors t f)) = rw out in
+        ap countOf (sym e ∙ w i p ∙ found)

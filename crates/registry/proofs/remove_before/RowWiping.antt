@@ -18,13 +18,12 @@ use Rattle.buffer.proofs.RowBack.{length-samplesOf}
 use Rattle.buffer.proofs.SampleLaws.{length-removeBefore-le}
 use Rattle.registry.specs.Tree.{Edge, wiped, wipe}
 use Rattle.registry.specs.Store.{Store, encode, placesIn, usedIn, kindOfWord, rowWord, rowInstants, rowPoses, rowAt, treeOf, limitsOf}
-use Rattle.registry.specs.Sound.{sound}
 use Rattle.registry.specs.Answers.{done}
 use Rattle.registry.specs.Calls.{outcome, written, wipeOf}
 use Rattle.registry.specs.declared.soundness.check.Checked.the-variants.{Sound}
 use Rattle.registry.specs.layout.Rows.{IsAbsent}
 use Rattle.registry.specs.soundness.Checks.{SoundStore}
-use Rattle.registry.proofs.soundness.Called.{called}
+use Rattle.registry.proofs.soundness.Called.{finds-sound, called}
 use Rattle.registry.proofs.layout.StoreRows.{instants-long}
 use Rattle.registry.proofs.layout.SizeLaws.{sized-is}
 use Rattle.registry.proofs.soundness.Rules.{sound-is}
@@ -38,7 +37,7 @@ use Rattle.registry.proofs.layout.RowHolding.{first, wide, sevens, lent
 module _ (s : Store) (f i : ℕ) (h : SoundStore s) where
   wipe-none : get (treeOf s) f ≡ none → outcome (refusal 9 (frame f)) (s .head) (s .instants) (s .poses) ≡ wipeOf s f i
   unfolding wipeOf wipe
-  wipe-none q = ap (written s (limitsOf s)) (ap (wiped f i (treeOf s)) (sym q) ∙ called s (λ L t. wipe t f i) Sound h)
+  wipe-none q = ap (written s (limitsOf s)) (ap (wiped f i (treeOf s)) (sym q) ∙ called s Sound (finds-sound s h) (λ L t. wipe t f i))
 
   wipe-some : (e : Edge) → get (treeOf s) f ≡ some e
       → record {
@@ -47,7 +46,7 @@ module _ (s : Store) (f i : ℕ) (h : SoundStore s) where
       }
       ≡ wipeOf s f i
   unfolding wipeOf wipe
-  wipe-some e q = ap (written s (limitsOf s)) (ap (wiped f i (treeOf s)) (sym q) ∙ called s (λ L t. wipe t f i) Sound h)
+  wipe-some e q = ap (written s (limitsOf s)) (ap (wiped f i (treeOf s)) (sym q) ∙ called s Sound (finds-sound s h) (λ L t. wipe t f i))
 
   pub wipe-absent : (k : ℕ) → IsAbsent (usedIn s) (s .head) f k → outcome (refusal 9 (frame f)) (s .head) (s .instants) (s .poses) ≡ wipeOf s f i
   wipe-absent k absent = wipe-none (get-absent s (usedIn s) refl f k absent)

@@ -1,26 +1,84 @@
--- What the tests of 1 and 2 make of a call on a store that is lent.
-use mathlib.Core.Path.{_≡_, sym, ap}
-use Rattle.time.specs.Reply.{Reply, refusal, nothing}
+-- What the tests of 1 and 2 find, and what they make of a call on a store that is lent.
+use mathlib.Core.Path.{_≡_, refl, sym, ap, _∙_}
+use mathlib.Core.Bool.{Bool, true, false, not, _&&_}
+use mathlib.Core.List.{[], _∷_}
+use types.Run.{OneOf, miss}
+use denote.Enum.Declared.{tagOf}
+use Rattle.time.specs.Reply.{Reply, answer, refusal, nothing, refuse, _then_}
+use Rattle.buffer.proofs.Cases.{and-left, and-right}
 use Rattle.registry.specs.Tree.{Tree, Limits}
-use Rattle.registry.specs.Store.{Store, limitsOf, treeOf}
+use Rattle.registry.specs.Store.{Store, limitsOf, treeOf, sized}
+use Rattle.registry.specs.Sound.{sound}
 use Rattle.registry.specs.Calls.{onTree, written}
 use Rattle.registry.specs.declared.soundness.check.Checked.{Checked}
 use Rattle.registry.specs.declared.soundness.check.Checked.the-variants.{Sizes, UnsoundStore, Sound}
-use Rattle.registry.specs.soundness.Checks.{Checks}
+use Rattle.registry.specs.soundness.Checks.{SoundStore, checkedReply}
+use Rattle.registry.proofs.soundness.check.Checked.{the-type}
 
--- the reply by what the tests found, r where they found nothing
-abbrev pub calledBy : {A : Type 0} → Checked → Reply A → Reply A
-calledBy Sizes r = refusal 1 nothing
-calledBy UnsoundStore r = refusal 2 nothing
-calledBy Sound r = r
+-- the tests of the store find k
+abbrev pub TestsFind : Store → Checked → Type 0
+TestsFind s k = checkedReply k ≡ onTree s (λ L t. answer tt)
 
-pub called : {A : Type 0} (s : Store) (call : Limits → Tree → Reply A) (k : Checked) → Checks s k → calledBy k (call (limitsOf s) (treeOf s)) ≡ onTree s call
+-- ---- from the tests
+
+module _ (s : Store) where
+  pub finds-sizes : sized s ≡ false → TestsFind s Sizes
+  unfolding onTree
+  finds-sizes e = sym (rw e)
+
+  pub finds-unsound : sized s ≡ true → sound s ≡ false → TestsFind s UnsoundStore
+  unfolding onTree
+  finds-unsound e f = sym (rw (e, f))
+
+  pub finds-sound : SoundStore s → TestsFind s Sound
+  unfolding onTree
+  finds-sound ok = sym (rw (ok .sizes, ok .rules))
+
+-- ---- to the calls
+
+-- 1 and 2 come before the call
+on-tree-then : {A : Type 0} (s : Store) (call : Limits → Tree → Reply A)
+    → (onTree s (λ L t. answer (tt {0})) then λ u. call (limitsOf s) (treeOf s)) ≡ onTree s call
 unfolding onTree
-called s call Sizes e = sym (rw e)
-called s call UnsoundStore e = sym (rw (e .0, e .1))
-called s call Sound h = sym (rw (h .sizes, h .rules))
+on-tree-then s call = go (sized s) (sound s)
+  where
+    go : (a b : Bool) → (refuse (not a) 1 nothing (refuse (not b) 2 nothing (answer (tt {0}))) then λ u. call (limitsOf s) (treeOf s))
+        ≡ refuse (not a) 1 nothing (refuse (not b) 2 nothing (call (limitsOf s) (treeOf s)))
+    go true true = refl
+    go true false = refl
+    go false b = refl
 
--- and the words that it leaves
-pub written-called : (s : Store) (call : Limits → Tree → Reply Tree) (k : Checked) → Checks s k
-    → written s (limitsOf s) (calledBy k (call (limitsOf s) (treeOf s))) ≡ written s (limitsOf s) (onTree s call)
-written-called s call k h = ap (written s (limitsOf s)) (called s call k h)
+module _ (s : Store) (k : Checked) (h : TestsFind s k) where
+  pub called : {A : Type 0} (call : Limits → Tree → Reply A) → (checkedReply k then λ u. call (limitsOf s) (treeOf s)) ≡ onTree s call
+  called call = ap (λ (r : Reply (Unit {0})). r then λ u. call (limitsOf s) (treeOf s)) h ∙ on-tree-then s call
+
+  -- and the words that it leaves
+  pub written-called : (call : Limits → Tree → Reply Tree)
+      → written s (limitsOf s) (checkedReply k then λ u. call (limitsOf s) (treeOf s)) ≡ written s (limitsOf s) (onTree s call)
+  written-called call = ap (written s (limitsOf s)) (called call)
+
+-- ---- to the rules
+
+abbrev answered : Reply (Unit {0}) → Bool
+answered (answer u) = true
+answered (refusal n c) = false
+
+answered-is : (s : Store) → answered (onTree s (λ L t. answer tt)) ≡ (sized s && sound s)
+unfolding onTree
+answered-is s = go (sized s) (sound s)
+  where
+    go : (a b : Bool) → answered (refuse (not a) 1 nothing (refuse (not b) 2 nothing (answer tt))) ≡ (a && b)
+    go true true = refl
+    go true false = refl
+    go false b = refl
+
+pub found-sound : (s : Store) → TestsFind s Sound → SoundStore s
+found-sound s h =
+    let passed : (sized s && sound s) ≡ true = sym (ap answered h ∙ answered-is s) in
+    record { sizes = and-left (sized s) (sound s) passed; rules = and-right (sized s) (sound s) passed }
+
+-- what is neither refused as 1 nor as 2
+pub checked-sound : (s : Store) (r : Checked) → OneOf (1 ∷ 2 ∷ []) (tagOf the-type r) → OneOf (0 ∷ 2 ∷ []) (tagOf the-type r) → TestsFind s r → SoundStore s
+checked-sound s Sizes h k c = absurd (miss (1 ∷ 2 ∷ []) 0 tt h)
+checked-sound s UnsoundStore h k c = absurd (miss (0 ∷ 2 ∷ []) 1 tt k)
+checked-sound s Sound h k c = found-sound s c

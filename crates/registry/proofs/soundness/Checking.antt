@@ -3,22 +3,16 @@ use Prim.Native.Nat.{ℕ, _+_, _-_, _*_, _≤_, _<_}
 use mathlib.Core.Path.{_≡_, ap, _∙_}
 use mathlib.Core.Bool.{Bool, true, false, _&&_}
 use mathlib.Core.Option.{Option}
-use mathlib.Core.List.{[], _∷_}
 use native.Mathlib.Nat.{suc-mul, mul-le-mul-right}
 use native.Mathlib.Omega.{arith}
 use lib.ListN.{length, take, drop}
 use borrow.Author.Tests.{leb-true}
-use types.Run.{OneOf, miss}
-use denote.Enum.Declared.{tagOf}
 use Rattle.buffer.specs.declared.kind.Kind.{Kind}
 use Rattle.buffer.specs.Row.{rowSound}
-use Rattle.registry.specs.declared.soundness.check.Checked.{Checked}
-use Rattle.registry.specs.declared.soundness.check.Checked.the-variants as checked
 use Rattle.registry.specs.Store.{Store, rowsIn, placesIn, usedIn, ageIn, kindOfWord, rowWord, sized}
 use Rattle.registry.specs.Sound.{rowsSound, unusedRowsZero, sound}
 use Rattle.registry.specs.layout.Rows.{UsedParts, RowPart}
-use Rattle.registry.specs.soundness.Checks.{headSound, rowRules, SoundStore, Checks}
-use Rattle.registry.proofs.soundness.check.Checked.{the-type}
+use Rattle.registry.specs.soundness.Checks.{headSound, rowRules, SoundStore}
 use Rattle.registry.proofs.layout.SizeLaws.{sized-is}
 use Rattle.registry.proofs.soundness.Everys.{and-parts}
 
@@ -76,9 +70,3 @@ module _ (s : Store) where
 pub sound-parts : (s : Store) → SoundStore s → UsedParts s
 unfolding sound
 sound-parts s ok = parts-used s (ok .sizes) (and-parts _ _ (and-parts _ _ (ok .rules) .0) .0)
-
--- what is neither refused as 1 nor as 2
-pub checked-sound : (s : Store) (r : Checked) → OneOf (1 ∷ 2 ∷ []) (tagOf the-type r) → OneOf (0 ∷ 2 ∷ []) (tagOf the-type r) → Checks s r → SoundStore s
-checked-sound s checked.Sizes h k c = absurd (miss (1 ∷ 2 ∷ []) 0 tt h)
-checked-sound s checked.UnsoundStore h k c = absurd (miss (0 ∷ 2 ∷ []) 1 tt k)
-checked-sound s checked.Sound h k c = c

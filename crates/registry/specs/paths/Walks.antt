@@ -1,8 +1,8 @@
 -- The walks up from two frames, as the contracts of the private functions cite them. No public contract rests on these.
 use Prim.Native.Nat.{ℕ, _+_, _*_, _^_, _≤_, _<_}
 use mathlib.Core.Path.{_≡_}
-use mathlib.Core.Bool.{true, cond}
-use mathlib.Core.List.{List, []}
+use mathlib.Core.Bool.{Bool, true, cond}
+use mathlib.Core.List.{List, [], _∷_}
 use lib.Dec.{eqb}
 use lib.ListN.{length}
 use lib.Ieee.{Float}
@@ -28,16 +28,18 @@ OfTree h P = (instants : List ℕ) (poses : List Float) → P (treeOf (storeOf h
 abbrev pub hopsTo : Tree → ℕ → ℕ → List Hop
 hopsTo t f top = hops t (until (eqb top) (chain t f))
 
--- how the climb from f towards the goal ends: the goal is above f, or this many frames are
-abbrev pub ClimbsTo : Tree → ℕ → ℕ → Climb → Type 0
-ClimbsTo t f goal Met = member goal (ancestors t f) ≡ true
-ClimbsTo t f goal (Root n) = n ≡ length (ancestors t f)
+-- how the climb from f towards the goal ends: at the goal where that is above f, else at the root with every frame above f passed
+abbrev pub climbTo : Tree → ℕ → ℕ → Climb
+climbTo t f goal = cond (member goal (ancestors t f)) Met (Root (length (ancestors t f)))
 
--- The climbs from f and g end at x and y: at one frame exactly when f and g are connected, and then it is the one where they meet; else at the roots.
-pub record AreTops (t : Tree) (f g x y : ℕ) : Type 0 where
-  pub meets : connected t f g ≡ eqb x y
-  pub target : hopsTo t f x ≡ hops t (side t f g)
-  pub source : hopsTo t g y ≡ hops t (side t g f)
+-- of x and xs the first that passes, or the last where none does
+abbrev pub firstOrLast : (ℕ → Bool) → ℕ → List ℕ → ℕ
+firstOrLast test x [] = x
+firstOrLast test x (y ∷ ys) = cond (test x) x (firstOrLast test y ys)
+
+-- the frame at which the climb from f ends: the first of its chain that is g or above g, or the root where there is none
+unfoldable pub top : Tree → ℕ → ℕ → ℕ
+top t f g = firstOrLast (λ x. member x (chain t g)) f (ancestors t f)
 
 -- ---- what the functions on a row ask of their callers
 

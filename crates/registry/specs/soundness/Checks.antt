@@ -1,10 +1,11 @@
 -- Refusals 1 and 2, as the contracts of the private functions cite them. No public contract rests on these.
 use Prim.Native.Nat.{ℕ, _^_}
 use mathlib.Core.Path.{_≡_}
-use mathlib.Core.Bool.{Bool, true, false, not, _&&_, _||_}
+use mathlib.Core.Bool.{Bool, true, not, _&&_, _||_}
 use mathlib.Core.List.{List}
 use lib.Dec.{eqb, ltb, leb}
 use lib.ListN.{getD}
+use Rattle.time.specs.Reply.{Reply, answer, refusal, nothing}
 use Rattle.buffer.specs.Map.{rising}
 use Rattle.buffer.specs.Row.{rowSound}
 use Rattle.registry.specs.declared.soundness.check.Checked.{Checked}
@@ -43,8 +44,8 @@ pub record SoundStore (s : Store) : Type 0 where
   pub sizes : sized s ≡ true
   pub rules : sound s ≡ true
 
--- what the tests of 1 and then of 2 find
-abbrev pub Checks : Store → Checked → Type 0
-Checks s Sizes = sized s ≡ false
-Checks s UnsoundStore = (sized s ≡ true) × (sound s ≡ false)
-Checks s Sound = SoundStore s
+-- what the tests of 1 and then of 2 find, as a reply
+abbrev pub checkedReply : Checked → Reply (Unit {0})
+checkedReply Sizes = refusal 1 nothing
+checkedReply UnsoundStore = refusal 2 nothing
+checkedReply Sound = answer tt

@@ -8,7 +8,7 @@ ghost use lib.ListN.{length};
 ghost use Rattle.registry.specs.Tree.{ancestors};
 ghost use Rattle.registry.specs.Sound.{climb, noCircle};
 ghost use Rattle.registry.specs.layout.Rows.{RisingRows};
-ghost use Rattle.registry.specs.paths.Walks.{OfTree, ClimbsTo, AreTops};
+ghost use Rattle.registry.specs.paths.Walks.{OfTree, climbTo, top};
 
 // The frame's parent, or the frame itself where it is no child.
 fn step_up(head: &[u64], used: usize, frame: u64) -> u64
@@ -31,7 +31,7 @@ pub(crate) enum Climb {
 // From the frame up until the goal is met, by at most as many steps as there are rows.
 fn climb_to(head: &[u64], used: usize, frame: u64, goal: u64) -> Climb
     requires { ⌜ RisingRows used (now head) ⌝ }
-    ensures { λ r. ⌜ OfTree (now (head .entry)) (λ t. ClimbsTo t frame goal r) ⌝ }
+    ensures { λ r. ⌜ OfTree (now (head .entry)) (λ t. r ≡ climbTo t frame goal) ⌝ }
 {
     let mut at = frame;
     let mut steps = 0;
@@ -68,7 +68,7 @@ fn climb_both(
     requires { ⌜ RisingRows used (now head)
         × OfTree (now head) (λ t. «above_target» ≡ length (ancestors t target))
         × OfTree (now head) (λ t. «above_source» ≡ length (ancestors t source)) ⌝ }
-    ensures { λ r. ⌜ OfTree (now (head .entry)) (λ t. noCircle t ≡ true → AreTops t target source (r .target) (r .source)) ⌝ }
+    ensures { λ r. ⌜ OfTree (now (head .entry)) (λ t. noCircle t ≡ true → (r .target ≡ top t target source) × (r .source ≡ top t source target)) ⌝ }
 {
     let mut f = target;
     let mut g = source;
@@ -98,7 +98,7 @@ fn climb_both(
 // Where one is above the other, that is the frame where they meet, and the climb to it suffices.
 pub(crate) fn meeting(head: &[u64], used: usize, target: u64, source: u64) -> Tops
     requires { ⌜ RisingRows used (now head) ⌝ }
-    ensures { λ r. ⌜ OfTree (now (head .entry)) (λ t. noCircle t ≡ true → AreTops t target source (r .target) (r .source)) ⌝ }
+    ensures { λ r. ⌜ OfTree (now (head .entry)) (λ t. noCircle t ≡ true → (r .target ≡ top t target source) × (r .source ≡ top t source target)) ⌝ }
 {
     let from_target = climb_to(head, used, target, source);
     let Climb::Root(above_target) = from_target else {

@@ -5,10 +5,11 @@ use super::unused;
 use crate::layout::head;
 use buffer::sound;
 ghost use mathlib.Core.Path.{_≡_};
+ghost use Rattle.time.specs.Reply.{answer};
 ghost use Rattle.registry.specs.Sound.{rowsSound};
-ghost use Rattle.registry.specs.Calls.{storeOf};
+ghost use Rattle.registry.specs.Calls.{storeOf, onTree};
 ghost use Rattle.registry.specs.layout.Rows.{UsedParts, RowPart};
-ghost use Rattle.registry.specs.soundness.Checks.{rowRules, Checks};
+ghost use Rattle.registry.specs.soundness.Checks.{rowRules, checkedReply};
 
 // What the tests find.
 pub(crate) enum Checked {
@@ -55,7 +56,7 @@ fn rows_sound(head: &[u64], instants: &[u64], poses: &[f64]) -> bool
 
 // Whether the sizes fit, and then whether the rules hold.
 pub(crate) fn check(head: &[u64], instants: &[u64], poses: &[f64]) -> Checked
-    ensures { λ r. ⌜ Checks (storeOf (now (head .entry)) (now (instants .entry)) (now (poses .entry))) r ⌝ }
+    ensures { λ r. ⌜ checkedReply r ≡ onTree (storeOf (now (head .entry)) (now (instants .entry)) (now (poses .entry))) (λ L t. answer tt) ⌝ }
 {
     if !sizes::sized(head, instants, poses) {
         return Checked::Sizes;

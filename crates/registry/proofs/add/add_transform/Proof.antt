@@ -9,11 +9,10 @@ use Rattle.registry.specs.Tree.{Tree, Limits, add}
 use Rattle.registry.specs.Calls.{storeOf, addOf}
 use Rattle.registry.specs.declared.soundness.check.Checked.the-variants.{Sizes, UnsoundStore, Sound}
 use Rattle.registry.specs.layout.Rows.{Finds}
-use Rattle.registry.specs.soundness.Checks.{SoundStore, Checks}
+use Rattle.registry.specs.soundness.Checks.{SoundStore}
 use Rattle.registry.specs.addition.Adding.{addition}
 use Rattle.registry.proofs.soundness.SoundStore.{sound-rows}
-use Rattle.registry.proofs.soundness.Checking.{checked-sound}
-use Rattle.registry.proofs.soundness.Called.{written-called}
+use Rattle.registry.proofs.soundness.Called.{TestsFind, written-called, finds-sound, checked-sound}
 use Rattle.registry.proofs.add.add_transform.Statement.{statement}
 use Rattle.registry.proofs.add.add_transform.Tie as tie
 
@@ -52,7 +51,7 @@ unfolding addOf
 returns c =
     let k = c .before .before in
     let s = k .before .before .before .before .before .before .before in
-    written-called (store s) (asked s) Sizes (subst (Checks (store s)) (c .enum-told .given .1) (k .check .ensures))
+    written-called (store s) Sizes (subst (TestsFind (store s)) (c .enum-told .given .1) (k .check .ensures)) (asked s)
 
 enum-told-2 : tie.Need-enum-told-2
 enum-told-2 c = search needs
@@ -71,7 +70,7 @@ unfolding addOf
 returns-2 c =
     let k = c .before .before .before in
     let s = k .before .before .before .before .before .before .before in
-    written-called (store s) (asked s) UnsoundStore (subst (Checks (store s)) (c .enum-told2 .given .1) (k .check .ensures))
+    written-called (store s) UnsoundStore (subst (TestsFind (store s)) (c .enum-told2 .given .1) (k .check .ensures)) (asked s)
 
 slice-read-used : tie.Need-slice-read-used
 slice-read-used c = omega (arith, sound-rows (store (start c)) (is-sound c) .rows .within)
@@ -115,7 +114,7 @@ unfolding addOf
 returns-3 c =
     let d = c .before .before .before .before .before .before in
     let b = d .before .before .before .before .before .before .before .before .before in
-    d .add-held .ensures ∙ written-called (store (start b)) (asked (start b)) Sound (is-sound b)
+    d .add-held .ensures ∙ written-called (store (start b)) Sound (finds-sound (store (start b)) (is-sound b)) (asked (start b))
 
 same-length-10 : tie.Need-same-length-10
 same-length-10 c = search needs
@@ -131,7 +130,7 @@ unfolding addOf
 returns-4 c =
     let d = c .before .before .before .before .before .before in
     let b = d .before .before .before .before .before .before .before .before .before in
-    d .add-new .ensures ∙ written-called (store (start b)) (asked (start b)) Sound (is-sound b)
+    d .add-new .ensures ∙ written-called (store (start b)) Sound (finds-sound (store (start b)) (is-sound b)) (asked (start b))
 
 pub add-transform-spec : {M : Type 1} → statement M
 add-transform-spec =

@@ -8,9 +8,8 @@ use Rattle.registry.specs.Tree.{Tree, Limits}
 use Rattle.registry.specs.Store.{Store}
 use Rattle.registry.specs.Answers.{Value}
 use Rattle.registry.specs.Calls.{storeOf, lookupOf}
-use Rattle.registry.specs.soundness.Checks.{Checks}
 use Rattle.registry.specs.Path.{lookup}
-use Rattle.registry.proofs.soundness.Called.{called}
+use Rattle.registry.proofs.soundness.Called.{TestsFind, called, found-sound}
 use Rattle.registry.proofs.get_transform.get_transform.Statement.{statement}
 use Rattle.registry.proofs.get_transform.get_transform.Tie as tie
 
@@ -23,8 +22,8 @@ start c = c .before .before .before .before
 abbrev asked : tie.Start → Limits → Tree → Reply Value
 asked s L t = lookup t (s .args .target) (s .args .source) (s .args .t)
 
-checked : (c : tie.After-check) (r : Checked) → c .check .result ≡ r → Checks (store (start c)) r
-checked c r e = subst (Checks (store (start c))) e (c .check .ensures)
+checked : (c : tie.After-check) (r : Checked) → c .check .result ≡ r → TestsFind (store (start c)) r
+checked c r e = subst (TestsFind (store (start c))) e (c .check .ensures)
 
 check-requires : tie.Need-check-requires
 check-requires c κs = search needs
@@ -39,28 +38,28 @@ enum-told-3 : tie.Need-enum-told-3
 enum-told-3 c = search needs
 
 resolve-requires : tie.Need-resolve-requires
-resolve-requires c κs = checked (c .before .before) _ (c .enum-told3 .given .1)
+resolve-requires c κs = let k = c .before .before in found-sound (store (start k)) (checked k _ (c .enum-told3 .given .1))
 
 returns : tie.Need-returns
 unfolding lookupOf
 returns c =
     let k = c .before .before in
     let s = start k in
-    called (store s) (asked s) Sizes (checked k _ (c .enum-told .given .1))
+    called (store s) Sizes (checked k _ (c .enum-told .given .1)) (asked s)
 
 returns-2 : tie.Need-returns-2
 unfolding lookupOf
 returns-2 c =
     let k = c .before .before in
     let s = start k in
-    called (store s) (asked s) UnsoundStore (checked k _ (c .enum-told2 .given .1))
+    called (store s) UnsoundStore (checked k _ (c .enum-told2 .given .1)) (asked s)
 
 returns-3 : tie.Need-returns-3
 unfolding lookupOf
 returns-3 c =
     let k = c .before .before .before in
     let s = start k in
-    c .resolve .ensures ∙ called (store s) (asked s) Sound (checked k _ (c .before .enum-told3 .given .1))
+    c .resolve .ensures ∙ called (store s) Sound (checked k _ (c .before .enum-told3 .given .1)) (asked s)
 
 pub get-transform-spec : {M : Type 1} → statement M
 get-transform-spec =

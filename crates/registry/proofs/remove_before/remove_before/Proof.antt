@@ -6,8 +6,7 @@ use Rattle.registry.specs.declared.soundness.check.Checked.the-variants.
 use Rattle.registry.specs.Store.{Store}
 use Rattle.registry.specs.Tree.{wipe}
 use Rattle.registry.specs.Calls.{storeOf, wipeOf}
-use Rattle.registry.specs.soundness.Checks.{Checks}
-use Rattle.registry.proofs.soundness.Called.{written-called}
+use Rattle.registry.proofs.soundness.Called.{TestsFind, written-called, found-sound}
 use Rattle.registry.proofs.remove_before.remove_before.Statement.{statement}
 use Rattle.registry.proofs.remove_before.remove_before.Tie as tie
 
@@ -17,8 +16,8 @@ store s = storeOf (s .args .head .now) (s .args .instants .now) (s .args .poses 
 abbrev start : tie.After-check → tie.Start
 start c = c .before .before .before .before .before .before .before
 
-checked : (c : tie.After-check) (r : Checked) → c .check .result ≡ r → Checks (store (start c)) r
-checked c r e = subst (Checks (store (start c))) e (c .check .ensures)
+checked : (c : tie.After-check) (r : Checked) → c .check .result ≡ r → TestsFind (store (start c)) r
+checked c r e = subst (TestsFind (store (start c))) e (c .check .ensures)
 
 check-requires : tie.Need-check-requires
 check-requires c κs = search needs
@@ -33,7 +32,7 @@ enum-told-3 : tie.Need-enum-told-3
 enum-told-3 c = search needs
 
 wipe-requires : tie.Need-wipe-requires
-wipe-requires c κs = let m = c .before .before .before in checked (m .before .before) _ (m .enum-told3 .given .1)
+wipe-requires c κs = let m = c .before .before .before in let k = m .before .before in found-sound (store (start k)) (checked k _ (m .enum-told3 .given .1))
 
 same-length : tie.Need-same-length
 same-length c = search needs
@@ -49,7 +48,7 @@ unfolding wipeOf
 returns c =
     let k = c .before .before in
     let s = start k in
-    written-called (store s) (λ L t. wipe t (s .args .child) (s .args .t)) Sizes (checked k _ (c .enum-told .given .1))
+    written-called (store s) Sizes (checked k _ (c .enum-told .given .1)) (λ L t. wipe t (s .args .child) (s .args .t))
 
 same-length-4 : tie.Need-same-length-4
 same-length-4 c = search needs
@@ -65,7 +64,7 @@ unfolding wipeOf
 returns-2 c =
     let k = c .before .before in
     let s = start k in
-    written-called (store s) (λ L t. wipe t (s .args .child) (s .args .t)) UnsoundStore (checked k _ (c .enum-told2 .given .1))
+    written-called (store s) UnsoundStore (checked k _ (c .enum-told2 .given .1)) (λ L t. wipe t (s .args .child) (s .args .t))
 
 same-length-7 : tie.Need-same-length-7
 same-length-7 c = search needs

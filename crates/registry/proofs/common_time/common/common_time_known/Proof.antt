@@ -3,21 +3,26 @@ use mathlib.Core.Path.{_∙_}
 use mathlib.Core.List.{List}
 use borrow.Author.Needs.{needs}
 use lib.Ieee.{Float}
-use Rattle.registry.specs.Tree.{Tree}
-use Rattle.registry.specs.Store.{treeOf}
+use Rattle.registry.specs.Store.{Store, treeOf}
 use Rattle.registry.specs.Calls.{storeOf}
-use Rattle.registry.specs.paths.Walks.{AreTops}
+use Rattle.registry.proofs.paths.Climbing.{Grounded}
+use Rattle.registry.proofs.paths.SideHops.{grounded}
+use Rattle.registry.proofs.paths.Tops.{EndAt}
 use Rattle.registry.proofs.common_time.CommonHops.{common-apart, common-meets, narrowed-is, agreed-is}
 use Rattle.registry.proofs.common_time.common.common_time_known.Statement.{statement}
 use Rattle.registry.proofs.common_time.common.common_time_known.Tie as tie
 
-abbrev tree : tie.Start → List Float → Tree
-tree c poses = treeOf (storeOf (c .args .head .now) (c .args .instants .now) poses)
+abbrev store : tie.Start → List Float → Store
+store c poses = storeOf (c .args .head .now) (c .args .instants .now) poses
+
+-- no circle
+ground : (s : tie.Start) (poses : List Float) → Grounded (treeOf (store s poses))
+ground s poses = grounded (store s poses) (s .args .used) (s .pre .rows) (s .pre .circles (s .args .instants .now) poses)
 
 -- where the two climbs end
-tops : (c : tie.After-meeting) (poses : List Float)
-    → (let s = c .before .before .before in AreTops (tree s poses) (s .args .target) (s .args .source) (c .meeting .result .target) (c .meeting .result .source))
-tops c poses =
+ends : (c : tie.After-meeting) (poses : List Float)
+    → (let s = c .before .before .before in EndAt (treeOf (store s poses)) (s .args .target) (s .args .source) (c .meeting .result .target) (c .meeting .result .source))
+ends c poses =
     let s = c .before .before .before in
     let i = s .args .instants .now in
     c .meeting .ensures i poses (s .pre .circles i poses)
@@ -29,7 +34,7 @@ returns : tie.Need-returns
 returns c poses =
     let m = c .before in
     let s = m .before .before .before in
-    common-apart (tree s poses) (s .args .target) (s .args .source) _ _ (tops m poses) (c .if1 .taken)
+    common-apart (treeOf (store s poses)) (ground s poses) (s .args .target) (s .args .source) _ _ (ends m poses) (c .if1 .taken)
 
 narrow-chain-requires : tie.Need-narrow-chain-requires
 narrow-chain-requires c κs = search needs
@@ -45,7 +50,7 @@ returns-2 c poses =
     let i = c .before .before .before .before in
     let m = i .before in
     let s = m .before .before .before in
-    common-meets (tree s poses) (s .args .target) (s .args .source) _ _ (tops m poses) (i .if1 .left) _
+    common-meets (treeOf (store s poses)) (ground s poses) (s .args .target) (s .args .source) _ _ (ends m poses) (i .if1 .left) _
     (narrowed-is _ _ _ (c .before .climbed2 .given .1) (c .before .before .before .narrow-chain .ensures poses))
 
 narrow-chain-requires-2 : tie.Need-narrow-chain-requires-2
@@ -69,7 +74,7 @@ returns-3 c poses =
     let s = m .before .before .before in
     c .agreed .ensures
     ∙ agreed-is _ _ _ (b .climbed3 .given .1) (b .before .before .narrow-chain2 .ensures poses)
-    ∙ common-meets (tree s poses) (s .args .target) (s .args .source) _ _ (tops m poses) (i .if1 .left) _
+    ∙ common-meets (treeOf (store s poses)) (ground s poses) (s .args .target) (s .args .source) _ _ (ends m poses) (i .if1 .left) _
     (narrowed-is _ _ _ (a .climbed .given .1) (a .before .before .narrow-chain .ensures poses))
 
 returns-4 : tie.Need-returns-4
@@ -80,7 +85,7 @@ returns-4 c poses =
     let m = i .before in
     let s = m .before .before .before in
     agreed-is _ _ _ (b .climbed4 .given .1) (b .before .before .narrow-chain2 .ensures poses)
-    ∙ common-meets (tree s poses) (s .args .target) (s .args .source) _ _ (tops m poses) (i .if1 .left) _
+    ∙ common-meets (treeOf (store s poses)) (ground s poses) (s .args .target) (s .args .source) _ _ (ends m poses) (i .if1 .left) _
     (narrowed-is _ _ _ (a .climbed .given .1) (a .before .before .narrow-chain .ensures poses))
 
 pub common-time-known-spec : {M : Type 1} → statement M

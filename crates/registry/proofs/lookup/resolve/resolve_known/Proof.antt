@@ -1,20 +1,26 @@
 -- `registry::lookup::resolve::resolve_known` meets its contract.
 use mathlib.Core.Path.{refl, _∙_}
 use borrow.Author.Needs.{needs}
-use Rattle.registry.specs.Tree.{Tree}
-use Rattle.registry.specs.Store.{treeOf}
+use Rattle.registry.specs.Store.{Store, treeOf}
 use Rattle.registry.specs.Calls.{storeOf}
-use Rattle.registry.specs.paths.Walks.{AreTops}
+use Rattle.registry.proofs.paths.Climbing.{Grounded}
+use Rattle.registry.proofs.paths.SideHops.{grounded}
+use Rattle.registry.proofs.paths.Tops.{EndAt}
 use Rattle.registry.proofs.lookup.LookupTops.{composed-is, lookup-tops, lookup-apart, lookup-meets}
 use Rattle.registry.proofs.lookup.resolve.resolve_known.Statement.{statement}
 use Rattle.registry.proofs.lookup.resolve.resolve_known.Tie as tie
 
-abbrev tree : tie.Start → Tree
-tree c = treeOf (storeOf (c .args .head .now) (c .args .instants .now) (c .args .poses .now))
+abbrev store : tie.Start → Store
+store c = storeOf (c .args .head .now) (c .args .instants .now) (c .args .poses .now)
+
+-- no circle
+ground : (s : tie.Start) → Grounded (treeOf (store s))
+ground s = let w = s .pre .walk in grounded (store s) (s .args .used) (w .rows) (w .circles (s .args .instants .now) (s .args .poses .now))
 
 -- where the two climbs end
-tops : (c : tie.After-meeting) → (let s = c .before .before .before .before in AreTops (tree s) (s .args .target) (s .args .source) (c .meeting .result .target) (c .meeting .result .source))
-tops c =
+ends : (c : tie.After-meeting)
+    → (let s = c .before .before .before .before in EndAt (treeOf (store s)) (s .args .target) (s .args .source) (c .meeting .result .target) (c .meeting .result .source))
+ends c =
     let s = c .before .before .before .before in
     let i = s .args .instants .now in
     let p = s .args .poses .now in
@@ -36,7 +42,7 @@ returns : tie.Need-returns
 returns c =
     let m = c .before .before .before .before in
     let s = m .before .before .before .before in
-    lookup-tops (tree s) (s .args .target) (s .args .source) _ _ (s .args .t) (tops m) _ _
+    lookup-tops (treeOf (store s)) (ground s) (s .args .target) (s .args .source) _ _ (s .args .t) (ends m) _ _
     (composed-is _ _ _ (c .before .climbed2 .given .1) (c .before .before .before .compose-chain .ensures)) refl
 
 compose-chain-requires-2 : tie.Need-compose-chain-requires-2
@@ -53,7 +59,7 @@ returns-2 c =
     let a = c .before .before .before .before .before in
     let m = a .before .before .before in
     let s = m .before .before .before .before in
-    lookup-tops (tree s) (s .args .target) (s .args .source) _ _ (s .args .t) (tops m) _ _
+    lookup-tops (treeOf (store s)) (ground s) (s .args .target) (s .args .source) _ _ (s .args .t) (ends m) _ _
     (composed-is _ _ _ (a .climbed .given .1) (a .before .before .compose-chain .ensures))
     (composed-is _ _ _ (c .before .climbed4 .given .1) (c .before .before .before .compose-chain2 .ensures))
 
@@ -63,7 +69,7 @@ returns-3 c =
     let a = b .before .before .before .before in
     let m = a .before .before .before in
     let s = m .before .before .before .before in
-    lookup-apart (tree s) (s .args .target) (s .args .source) _ _ (s .args .t) (tops m) _ _
+    lookup-apart (treeOf (store s)) (ground s) (s .args .target) (s .args .source) _ _ (s .args .t) (ends m) _ _
     (composed-is _ _ _ (a .climbed .given .1) (a .before .before .compose-chain .ensures))
     (composed-is _ _ _ (b .climbed3 .given .1) (b .before .before .compose-chain2 .ensures)) (c .if1 .taken)
 
@@ -77,7 +83,7 @@ returns-4 c =
     let m = a .before .before .before in
     let s = m .before .before .before .before in
     c .combine-transforms .ensures
-    ∙ lookup-meets (tree s) (s .args .target) (s .args .source) _ _ (s .args .t) (tops m) _ _
+    ∙ lookup-meets (treeOf (store s)) (ground s) (s .args .target) (s .args .source) _ _ (s .args .t) (ends m) _ _
     (composed-is _ _ _ (a .climbed .given .1) (a .before .before .compose-chain .ensures))
     (composed-is _ _ _ (b .climbed3 .given .1) (b .before .before .compose-chain2 .ensures)) (c .before .if1 .left)
 

@@ -41,8 +41,7 @@ returns c =
     let s = m .before .before in
     let a = s .args in
     let l = m .loop in
-    climbs-apart (a .head .now) (a .used) (s .pre .0) (a .target) (a .source) (l .f) (l .g) (l .above-f) (l .above-g) (l .inv)
-    (c .before .before .loop-test .taken) (omega arith) (omega arith)
+    climbs-apart (a .head .now) (a .used) (s .pre .0) (a .target) (a .source) (l .f) (l .g) (l .above-f) (l .above-g) (l .inv) (omega arith) (omega arith)
 
 step-up-requires-2 : tie.Need-step-up-requires-2 Inv-loop μ-loop
 step-up-requires-2 c κs = c .before .before .before .before .before .pre .0

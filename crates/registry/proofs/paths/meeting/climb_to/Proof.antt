@@ -5,8 +5,8 @@ use mathlib.Core.Path.{_≡_, sym, _∙_, subst}
 use native.Mathlib.Omega.{arith}
 use borrow.Author.Needs.{needs}
 use Rattle.registry.specs.layout.Rows.{Finds, IsRow}
-use Rattle.registry.proofs.soundness.CircleWalk.{Walked, walk-start, walk-here, walk-on}
-use Rattle.registry.proofs.paths.TreeWalks.{Deep, deep-start, deep-root, deep-end, deep-on}
+use Rattle.registry.proofs.soundness.CircleWalk.{Walked, walk-start, walk-root, walk-end, walk-here, walk-on}
+use Rattle.registry.proofs.paths.TreeWalks.{Deep, deep-start, deep-root, deep-end, deep-on, climb-met, climb-root}
 use Rattle.registry.proofs.paths.meeting.climb_to.Statement.{statement}
 use Rattle.registry.proofs.paths.meeting.climb_to.Tie as tie
 
@@ -50,20 +50,23 @@ returns c =
     let l = c .before .before .before .before in
     let s = l .before .before in
     let a = s .args in
-    deep-root (a .head .now) (a .used) (s .pre) (a .frame) (l .loop .at) (l .loop .steps) (l .loop .inv .1) _
-    (subst (Finds (a .used) (a .head .now) (l .loop .at)) (c .enum-told .given .1) (c .before .before .find-row .ensures))
+    let absent = subst (Finds (a .used) (a .head .now) (l .loop .at)) (c .enum-told .given .1) (c .before .before .find-row .ensures) in
+    climb-root (a .head .now) (a .frame) (a .goal) _
+    (walk-root (a .head .now) (a .used) (a .goal) (a .frame) (s .pre) (l .loop .at) (a .used - l .loop .steps) _ (l .loop .inv .2) absent)
+    (deep-root (a .head .now) (a .used) (s .pre) (a .frame) (l .loop .at) (l .loop .steps) (l .loop .inv .1) _ absent)
 
 parent-at-requires : tie.Need-parent-at-requires Inv-loop μ-loop
 parent-at-requires c κs = omega (arith, row (c .before) .used, start (c .before) .pre .rows .within)
 
 returns-2 : tie.Need-returns-2 Inv-loop μ-loop
-returns-2 c i p =
+returns-2 c =
     let f = c .before .before .before in
     let s = start f in
     let a = s .args in
     let l = loop f .loop in
-    sym (walk-here (a .head .now) (a .used) (a .goal) (a .frame) (s .pre) (l .at) (a .used - l .steps) _ (l .inv .2) (omega arith) (row f)
-    (sym (c .before .parent-at .ensures) ∙ c .if1 .taken) i p)
+    climb-met (a .head .now) (a .frame) (a .goal)
+    (walk-here (a .head .now) (a .used) (a .goal) (a .frame) (s .pre) (l .at) (a .used - l .steps) _ (l .inv .2) (omega arith) (row f)
+    (sym (c .before .parent-at .ensures) ∙ c .if1 .taken))
 
 add-steps : tie.Need-add-steps Inv-loop μ-loop
 add-steps c = omega arith
@@ -92,7 +95,9 @@ returns-3 c =
     let l = c .before .loop in
     let s = c .before .before .before in
     let a = s .args in
-    deep-end (a .head .now) (a .used) (s .pre) (a .frame) (l .at) (l .steps) (l .inv .1) (omega arith)
+    climb-root (a .head .now) (a .frame) (a .goal) _
+    (walk-end (a .head .now) (a .used) (a .goal) (a .frame) (s .pre) (l .at) (a .used - l .steps) (l .inv .2) (omega arith))
+    (deep-end (a .head .now) (a .used) (s .pre) (a .frame) (l .at) (l .steps) (l .inv .1) (omega arith))
 
 pub climb-to-spec : {M : Type 1} → statement M
 climb-to-spec =

@@ -1,16 +1,9 @@
 -- `registry::paths::meeting::meeting` meets its contract: one is above the other, or both climbs count the frames to the root.
-use Prim.Native.Nat.{ℕ}
-use mathlib.Core.Path.{subst}
-use mathlib.Core.List.{List}
 use borrow.Author.Needs.{needs}
-use Rattle.registry.specs.declared.paths.meeting.Climb.{Climb}
-use Rattle.registry.specs.paths.Walks.{OfTree, ClimbsTo}
 use Rattle.registry.proofs.paths.MeetingFrame.{source-above, target-above}
+use Rattle.registry.proofs.paths.TreeWalks.{met-above, root-count}
 use Rattle.registry.proofs.paths.meeting.meeting.Statement.{statement}
 use Rattle.registry.proofs.paths.meeting.meeting.Tie as tie
-
-abbrev ClimbsIn : List ℕ → ℕ → ℕ → Climb → Type 0
-ClimbsIn h f goal r = OfTree h (λ t. ClimbsTo t f goal r)
 
 climb-to-requires : tie.Need-climb-to-requires
 climb-to-requires c κs = search needs
@@ -26,7 +19,7 @@ returns c =
     let s = c .before .before .before .before in
     let a = s .args in
     source-above (a .head .now) (a .used) (s .pre) (a .target) (a .source)
-    (subst (ClimbsIn (a .head .now) (a .target) (a .source)) (c .enum-told .given .1) (c .before .before .climb-to .ensures))
+    (met-above (a .head .now) (a .target) (a .source) _ (c .before .before .climb-to .ensures) (c .enum-told .given .1))
 
 climb-to-requires-2 : tie.Need-climb-to-requires-2
 climb-to-requires-2 c κs = search needs
@@ -42,7 +35,7 @@ returns-2 c =
     let s = c .before .before .before .before .before .before .before .before in
     let a = s .args in
     target-above (a .head .now) (a .used) (s .pre) (a .target) (a .source)
-    (subst (ClimbsIn (a .head .now) (a .source) (a .target)) (c .enum-told2 .given .1) (c .before .before .climb-to2 .ensures))
+    (met-above (a .head .now) (a .source) (a .target) _ (c .before .before .climb-to2 .ensures) (c .enum-told2 .given .1))
 
 climb-both-requires : tie.Need-climb-both-requires
 climb-both-requires c κs =
@@ -51,8 +44,8 @@ climb-both-requires c κs =
     let s = f .before .before .before .before in
     let a = s .args in (
       s .pre,
-      subst (ClimbsIn (a .head .now) (a .target) (a .source)) (f .from-target .given .1) (f .before .before .climb-to .ensures),
-      subst (ClimbsIn (a .head .now) (a .source) (a .target)) (g .from-source .given .1) (g .before .before .climb-to2 .ensures),
+      root-count (a .head .now) (a .target) (a .source) _ (f .before .before .climb-to .ensures) _ (f .from-target .given .1),
+      root-count (a .head .now) (a .source) (a .target) _ (g .before .before .climb-to2 .ensures) _ (g .from-source .given .1),
     )
 
 returns-3 : tie.Need-returns-3

@@ -8,6 +8,7 @@ use Rattle.registry.specs.Sound.{rowsSound}
 use Rattle.registry.specs.Calls.{storeOf}
 use Rattle.registry.specs.soundness.Checks.{headSound}
 use Rattle.registry.proofs.soundness.Checking.{head-asked, parts-used, head-unsound, rows-unsound, all-rules}
+use Rattle.registry.proofs.soundness.Called.{finds-sizes, finds-unsound, finds-sound}
 use Rattle.registry.proofs.soundness.check.check.Statement.{statement}
 use Rattle.registry.proofs.soundness.check.check.Tie as tie
 
@@ -37,7 +38,7 @@ sized-requires : tie.Need-sized-requires
 sized-requires c κs = search needs
 
 returns : tie.Need-returns
-returns c = sym (c .before .sized .ensures) ∙ not-true _ (c .if1 .taken)
+returns c = finds-sizes (store (c .before .before .before .before .before)) (sym (c .before .sized .ensures) ∙ not-true _ (c .if1 .taken))
 
 head-sound-requires : tie.Need-head-sound-requires
 head-sound-requires c κs = head-asked (sizedAt c) (sizes c)
@@ -46,7 +47,7 @@ returns-2 : tie.Need-returns-2
 returns-2 c =
     let d = c .before .before in
     let s = sizedAt d in
-    (sizes d, head-unsound s (sym (c .before .head-sound .ensures (s .instants) (s .poses)) ∙ not-true _ (c .if2 .taken)))
+    finds-unsound s (sizes d) (head-unsound s (sym (c .before .head-sound .ensures (s .instants) (s .poses)) ∙ not-true _ (c .if2 .taken)))
 
 rows-sound-requires : tie.Need-rows-sound-requires
 rows-sound-requires c κs = parts-used (headAt c) (sizes (c .before .before)) (head c)
@@ -54,7 +55,7 @@ rows-sound-requires c κs = parts-used (headAt c) (sizes (c .before .before)) (h
 returns-3 : tie.Need-returns-3
 returns-3 c =
     let d = c .before .before in
-    (sizes (d .before .before), rows-unsound (headAt d) (head d) (sym (c .before .rows-sound .ensures) ∙ not-true _ (c .if3 .taken)))
+    finds-unsound (headAt d) (sizes (d .before .before)) (rows-unsound (headAt d) (head d) (sym (c .before .rows-sound .ensures) ∙ not-true _ (c .if3 .taken)))
 
 unused-rows-zero-requires : tie.Need-unused-rows-zero-requires
 unused-rows-zero-requires c κs = let d = c .before .before in parts-used (headAt d) (sizes (d .before .before)) (head d)
@@ -63,16 +64,17 @@ returns-4 : tie.Need-returns-4
 returns-4 c =
     let b = c .before .before in
     let d = b .before .before in
-    (sizes (d .before .before), all-rules (rowsAt b) false (head d) (rows b) (sym (c .before .unused-rows-zero .ensures) ∙ not-true _ (c .if4 .taken)))
+    finds-unsound (rowsAt b) (sizes (d .before .before)) (all-rules (rowsAt b) false (head d) (rows b) (sym (c .before .unused-rows-zero .ensures) ∙ not-true _ (c .if4 .taken)))
 
 returns-5 : tie.Need-returns-5
 returns-5 c =
     let b = c .before .before in
     let d = b .before .before in
-    record {
+    finds-sound (rowsAt b)
+    (record {
       sizes = sizes (d .before .before);
       rules = all-rules (rowsAt b) true (head d) (rows b) (sym (c .before .unused-rows-zero .ensures) ∙ not-false _ (c .if4 .left));
-    }
+    })
 
 pub check-spec : {M : Type 1} → statement M
 check-spec =
