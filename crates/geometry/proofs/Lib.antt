@@ -3,3 +3,4 @@ pub mod ReplyInjective
 pub mod Squares
 pub mod UnitDistance
 pub mod ValidFast
+pub mod Order

@@ -3,4 +3,3 @@ pub mod Joining
 pub mod LookupLaws
 pub mod LookupTops
 pub mod NotServed
-pub mod Refusals

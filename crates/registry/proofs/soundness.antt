@@ -13,6 +13,7 @@ pub mod Rules
 pub mod SameParents
 pub mod SizeTests
 pub mod SoundEdges
+pub mod SoundHoldsNoNan
 pub mod SoundIsEncoded
 pub mod SoundStore
 pub mod WipeKeepsSound

@@ -1,4 +1,4 @@
--- Demand 3: one statement about two whole lists of additions. Proved in proofs/Demand3.antt.
+-- Demand 3: one statement about two whole lists of additions. Proved in proofs/histories/Demand3.antt.
 use Prim.Native.Nat.{ℕ}
 use mathlib.Core.Path.{_≡_}
 use mathlib.Core.Logic.{_↔_}

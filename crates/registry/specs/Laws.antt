@@ -2,9 +2,10 @@
 use Prim.Native.Nat.{ℕ, _^_, _≤_, _<_}
 use mathlib.Core.Path.{_≡_}
 use mathlib.Core.Logic.{_↔_}
-use mathlib.Core.Bool.{true}
+use mathlib.Core.Bool.{Bool, true, not}
 use lib.ListN.{length}
-use Rattle.time.specs.Reply.{answer}
+use lib.Ieee.{isNan}
+use Rattle.time.specs.Reply.{Carried, answer, refusal}
 use Rattle.buffer.specs.Map.{all, rising}
 use Rattle.buffer.specs.Row.{instantsSound, posesSound, FloatsFit}
 use Rattle.registry.specs.Tree.{Tree, Limits, Addition, add, wipe}
@@ -12,7 +13,7 @@ use Rattle.registry.specs.Store.{Store, encode, treeOf, limitsOf, usedIn
 use Rattle.registry.specs.Sound.{framesFit, parentsDiffer, noCircle, NotAboveItself, sound}
 use Rattle.registry.specs.declared.answer.Answer.{Answer}
 use Rattle.registry.specs.Answers.{done, replyOf}
-use Rattle.registry.specs.Calls.{openOf}
+use Rattle.registry.specs.Calls.{openOf, addOf, wipeOf}
 
 -- "no circle", which climbs decide, means that no frame is above itself
 abbrev pub NoCircle : Type 0
@@ -71,6 +72,21 @@ AddKeepsSound = (L : Limits) (t u : Tree) (a : Addition) → a .child < 2 ^ 32 �
 -- a wipe that is answered leaves a sound tree sound
 abbrev pub WipeKeepsSound : Type 0
 WipeKeepsSound = (L : Limits) (t u : Tree) (f i : ℕ) → SoundTree L t → wipe t f i ≡ answer u → SoundTree L u
+
+-- ---- floats and their bits
+
+-- no float of the store is a NaN
+abbrev pub noNan : Store → Bool
+noNan s = all (λ x. not (isNan x)) (s .poses)
+
+-- a sound store holds no NaN, so that what the definitions say of its floats, in which one NaN stands for all, is said of their bits
+abbrev pub SoundHoldsNoNan : Type 0
+SoundHoldsNoNan = (s : Store) → sized s ≡ true → sound s ≡ true → noNan s ≡ true
+
+-- where an addition or a wipe is refused with a number other than 1 and 2, the store holds no NaN, so that "every word as it was" is exact in bits
+pub record ExactRefusals : Type 0 where
+  pub adds : (s : Store) (a : Addition) (k : ℕ) (c : Carried) → addOf s a .reply ≡ refusal k c → (k ≡ 1 → ⊥) → (k ≡ 2 → ⊥) → noNan s ≡ true
+  pub wipes : (s : Store) (f i k : ℕ) (c : Carried) → wipeOf s f i .reply ≡ refusal k c → (k ≡ 1 → ⊥) → (k ≡ 2 → ⊥) → noNan s ≡ true
 
 -- ---- answers
 

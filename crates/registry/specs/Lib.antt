@@ -9,6 +9,8 @@ pub mod Demand3
 pub mod Laws
 pub mod PathLaws
 pub mod AsMap
+pub mod Order
+pub mod Replies
 pub mod Readings
 pub mod layout
 pub mod soundness

@@ -1,5 +1,4 @@
--- What holds of the path of two frames, of latest common time and of lookup. Proved in proofs/ under the same names, the laws of the calls on words in
--- crate registry.
+-- What holds of the path of two frames, of latest common time and of lookup. Proved in proofs/ under the same names.
 use Prim.Native.Nat.{ℕ, _^_, _≤_, _<_}
 use mathlib.Core.Path.{_≡_}
 use mathlib.Core.Logic.{_↔_, _⊎_}

@@ -1,9 +1,14 @@
--- What holds of the lengths. Proved in proofs/ under the same name.
+-- What holds of the lengths and of the struct. Proved in proofs/ under the same names.
 use Prim.Native.Nat.{ℕ}
 use mathlib.Core.Path.{_≡_}
-use mathlib.Core.Bool.{_&&_}
+use mathlib.Core.Bool.{true, _&&_}
 use lib.ListN.{length}
+use Rattle.time.specs.Reply.{Reply}
+use Rattle.geometry.specs.declared.isometry.Isometry.{Isometry}
 use Rattle.registry.specs.Store.{Store, sizesFit}
+use Rattle.registry.specs.Answers.{Value}
+use Rattle.registry.specs.Replies.{Form, ofPose, fits, posed}
+use Rattle.transforms_c.specs.Flat.{flat, flatPose}
 use Rattle.transforms_c.specs.Lengths.{rowsFit, placesFit, headLen, instantsLen, posesLen}
 
 -- slices of the lengths told are opened, unless E or S is out of its bounds
@@ -14,3 +19,11 @@ LengthsFit =
     → length (s .instants) ≡ instantsLen rows places
     → length (s .poses) ≡ posesLen rows places
     → sizesFit rows places s ≡ (rowsFit rows && placesFit places)
+
+-- The struct fixes the reply of the call that was made: two replies with answers of one form that fit are equal where their structs are.
+abbrev pub FlatFixes : Type 0
+FlatFixes = (form : Form) (r q : Reply Value) → fits form r ≡ true → fits form q ≡ true → flat r ≡ flat q → r ≡ q
+
+-- the same of an operation on poses
+abbrev pub FlatPoseFixes : Type 0
+FlatPoseFixes = (r q : Reply Isometry) → fits ofPose (posed r) ≡ true → fits ofPose (posed q) ≡ true → flatPose r ≡ flatPose q → r ≡ q

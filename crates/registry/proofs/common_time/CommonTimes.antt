@@ -135,12 +135,12 @@ ranges (h ∷ hs) = go (ranges hs)
 
 -- ---- what the path's hops reply
 
-data Replied (hs : List Hop) (r : Reply Value) : Type 0 where
+pub data Replied (hs : List Hop) (r : Reply Value) : Type 0 where
   allStatic : r ≡ answer static → Every (λ h. h .1 .kind ≡ Static) hs → Replied hs r
   greatest : (i : ℕ) → r ≡ answer (at i) → Greatest i hs → Replied hs r
   refused : (h : Hop) → r ≡ refusal 12 (hop (h .0) (range (h .1 .samples))) → ((i : ℕ) → InsideEvery i hs → ⊥) → Blamed h hs → Replied hs r
 
-replied : (hs : List Hop) → Replied hs (spans hs then meet)
+pub replied : (hs : List Hop) → Replied hs (spans hs then meet)
 replied hs = by-ranges (ranges hs)
   where
     by-meet : {xs : List Span} → spans hs ≡ answer xs → Spanned hs xs → Met xs (meet xs) → Replied hs (spans hs then meet)
@@ -177,7 +177,7 @@ of-path : (t : Tree) (f g : ℕ) → connected t f g ≡ true → Replied (path 
 of-path t f g m = rw (common-time t f g m) (replied (path t f g))
 
 -- every instant is inside where no hop moves
-static-inside : (hs : List Hop) → Every (λ h. h .1 .kind ≡ Static) hs → (i : ℕ) → InsideEvery i hs
+pub static-inside : (hs : List Hop) → Every (λ h. h .1 .kind ≡ Static) hs → (i : ℕ) → InsideEvery i hs
 static-inside [] k i = tt
 static-inside (h ∷ hs) k i = (rw (static-cover (h .1 .kind) (h .1 .samples) .1 (k .0)) tt, static-inside hs (k .1) i)
 

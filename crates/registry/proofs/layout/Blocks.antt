@@ -11,7 +11,7 @@ use Rattle.registry.specs.Store.{tabulate}
 
 module _ {A B : Type 0} (f : A → List B) (w : ℕ) where
   -- the blocks that stand in a list, and what follows them
-  blocks-split : (n : ℕ) (g : ℕ → A) (l : List B) → ((r : ℕ) → r < n → f (g r) ≡ take w (drop (r * w) l)) → concatMap f (tabulate n g) ++ drop (n * w) l ≡ l
+  pub blocks-split : (n : ℕ) (g : ℕ → A) (l : List B) → ((r : ℕ) → r < n → f (g r) ≡ take w (drop (r * w) l)) → concatMap f (tabulate n g) ++ drop (n * w) l ≡ l
   blocks-split zero g l h = rw (zero-mul w)
   blocks-split (suc n) g l h =
       let e : (r : ℕ) → suc r * w ≡ w + r * w = λ r. suc-mul r w ∙ add-comm (r * w) w in

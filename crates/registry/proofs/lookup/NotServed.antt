@@ -23,8 +23,9 @@ use Rattle.registry.specs.Answers.{Value, pose}
 use Rattle.registry.specs.Path.{Hop, chain, hops, side, connected, ask, onto, fold, joined, lookupAlong, lookupApart, lookup}
 use Rattle.registry.specs.Laws.{SoundTree}
 use Rattle.registry.specs.PathLaws.{path, Every, Ranged, Inside, Placed, asked, TwoKnown, LookupNotServed, LookupDisconnected}
+use Rattle.registry.specs.Replies.{ofPose, answers}
 use Rattle.registry.proofs.paths.Paths.{hops-pass, every-here, every-unit, every-append, placed-behind}
-use Rattle.registry.proofs.lookup.Refusals.{Only, only-then, only-of, joined-only}
+use Rattle.registry.proofs.Fits.{Fits, refused, other, never, posed-joined}
 use Rattle.registry.proofs.ViewFixes.{single-row, row-rises}
 
 -- ---- one hop
@@ -63,7 +64,7 @@ module _ (age : Option ℕ) (places i : ℕ) where
   Sound h = instantsSound age places (h .1 .kind) (h .1 .samples) ≡ true
 
   -- the first hop that does not serve the instant
-  record Fails (h : Hop) (hs : List Hop) : Type 0 where
+  pub record Fails (h : Hop) (hs : List Hop) : Type 0 where
     pub outside : Inside i h → ⊥
     pub placed : Placed (Inside i) h (λ x. Unit {0}) hs
 
@@ -117,8 +118,9 @@ module _ (age : Option ℕ) (places i : ℕ) where
       go (x ∷ a) [] u v e = let z : x ≡ h = cc e in absurd (k .outside (subst (Inside i) z (u .0)))
       go (x ∷ a) (y ∷ b) u v e = go a b (u .1) (v .1) (cc e)
 
-  data Walked (a b : List Hop) (last : Option Isometry → Option Isometry → Reply Value) (r : Reply Value) : Type 0 where
-    arrives : (x y : Option Isometry) → r ≡ last x y → Every (Inside i) (a ++ b) → Walked a b last r
+  -- the target's hops are all served, with x for their product, and the source's, with y; or a hop fails
+  pub data Walked (a b : List Hop) (last : Option Isometry → Option Isometry → Reply Value) (r : Reply Value) : Type 0 where
+    arrives : (x y : Option Isometry) → fold none a i ≡ answer x → r ≡ last x y → Every (Inside i) (a ++ b) → Walked a b last r
     halts : (h : Hop) → r ≡ refusal 11 (hop (h .0) (range (h .1 .samples))) → Fails h (a ++ b) → Walked a b last r
 
   walked : (a b : List Hop) (last : Option Isometry → Option Isometry → Reply Value) → Every Sound a → Every Sound b
@@ -128,21 +130,21 @@ module _ (age : Option ℕ) (places i : ℕ) where
       by : Folded a (fold none a i) → Folded b (fold none b i) → Walked a b last (fold none a i then λ x. fold none b i then λ y. last x y)
       by (stops h e f) w = halts h (rw e) (fails-front h a b f)
       by (through x e k) (stops h z f) = halts h (rw (e, z)) (fails-back h a b k f)
-      by (through x e k) (through y z l) = arrives x y (rw (e, z)) (every-append (Inside i) a b k l)
+      by (through x e k) (through y z l) = arrives x y e (rw (e, z)) (every-append (Inside i) a b k l)
 
   module _ (a b : List Hop) (last : Option Isometry → Option Isometry → Reply Value) (r : Reply Value) where
     -- some hop fails, or none does
     not-both : (h : Hop) → Every (Inside i) (a ++ b) → Fails h (a ++ b) → ⊥
     not-both h k f = f .outside (every-here (Inside i) (f .placed .before) h (f .placed .after) (subst (λ (l : List Hop). Every (Inside i) l) (f .placed .place) k))
 
-    eleven : ((x y : Option Isometry) → Only (λ n. (n ≡ 11 → ⊥)) (last x y)) → Walked a b last r → (c : Carried)
+    eleven : ((x y : Option Isometry) → Fits (other 11) (answers ofPose) (last x y)) → Walked a b last r → (c : Carried)
         → (r ≡ refusal 11 c)
         ↔ ((h : Hop) × (c ≡ hop (h .0) (range (h .1 .samples))) × (Inside i h → ⊥) × Placed (Inside i) h (λ x. Unit {0}) (a ++ b))
-    eleven other (arrives x y e k) c = (
-      λ z. absurd (only-of (λ n. (n ≡ 11 → ⊥)) (last x y) 11 c (other x y) (sym e ∙ z) refl),
+    eleven rest (arrives x y q e k) c = (
+      λ z. absurd (never (rest x y) (sym e ∙ z)),
       λ z. absurd (not-both (z .0) k (record { outside = z .2; placed = z .3 })),
     )
-    eleven other (halts h e f) c = (
+    eleven rest (halts h e f) c = (
       λ z. (h, (cc), f .outside, f .placed),
       λ z.
           let same : h ≡ z .0 = fails-one (a ++ b) h (z .0) f (record { outside = z .2; placed = z .3 }) in
@@ -151,14 +153,8 @@ module _ (age : Option ℕ) (places i : ℕ) where
 
 -- ---- the laws
 
-abbrev NotEleven : ℕ → Type 0
-NotEleven n = n ≡ 11 → ⊥
-
-abbrev alongLast : Option Isometry → Option Isometry → Reply Value
+abbrev pub alongLast : Option Isometry → Option Isometry → Reply Value
 alongLast x y = joined x y then λ p. answer (pose p)
-
-along-other : (P : ℕ → Type 0) → P 13 → P 14 → P 3 → (x y : Option Isometry) → Only P (alongLast x y)
-along-other P infinite short far x y = only-then P (joined x y) _ (joined-only P infinite short far x y) (λ p. tt)
 
 module _ (L : Limits) (t : Tree) (s : SoundTree L t) (f g : ℕ) (k : TwoKnown t f g) (i : ℕ) where
   hops-sound : (xs : List ℕ) → Every (Sound (L .age) (L .places) i) (hops t xs)
@@ -172,12 +168,12 @@ module _ (L : Limits) (t : Tree) (s : SoundTree L t) (f g : ℕ) (k : TwoKnown t
   unfolding lookup ask
   lookup-apart m = rw (ne-eqb f g (k .unlike), k .target, k .source, m)
 
-  on-path : connected t f g ≡ true → Walked (L .age) (L .places) i (hops t (side t f g)) (hops t (side t g f)) alongLast (lookup t f g i)
+  pub on-path : connected t f g ≡ true → Walked (L .age) (L .places) i (hops t (side t f g)) (hops t (side t g f)) alongLast (lookup t f g i)
   on-path m =
       rw (lookup-along m)
       (walked (L .age) (L .places) i (hops t (side t f g)) (hops t (side t g f)) alongLast (hops-sound (side t f g)) (hops-sound (side t g f)))
 
-  off-path : connected t f g ≡ false → Walked (L .age) (L .places) i (hops t (chain t f)) (hops t (chain t g)) (λ x y. refusal 10 nothing) (lookup t f g i)
+  pub off-path : connected t f g ≡ false → Walked (L .age) (L .places) i (hops t (chain t f)) (hops t (chain t g)) (λ x y. refusal 10 nothing) (lookup t f g i)
   off-path m =
       rw (lookup-apart m)
       (walked (L .age) (L .places) i (hops t (chain t f)) (hops t (chain t g)) (λ x y. refusal 10 nothing) (hops-sound (chain t f)) (hops-sound (chain t g)))
@@ -189,26 +185,22 @@ lookupNotServed L t s f g k i c =
     (λ m.
     rw m
     (eleven (L .age) (L .places) i (hops t (side t f g)) (hops t (side t g f)) alongLast (lookup t f g i)
-    (along-other NotEleven (λ e. omega arith) (λ e. omega arith) (λ e. omega arith)) (on-path L t s f g k i m) c))
+    (posed-joined (other 11) refl refl refl) (on-path L t s f g k i m) c))
     (λ m.
     rw m
     (eleven (L .age) (L .places) i (hops t (chain t f)) (hops t (chain t g)) (λ x y. refusal 10 nothing) (lookup t f g i)
-    (λ x y e. omega arith) (off-path L t s f g k i m) c))
-
-abbrev NotTen : ℕ → Type 0
-NotTen n = n ≡ 10 → ⊥
+    (λ x y. refused refl) (off-path L t s f g k i m) c))
 
 eleven-ten : {r : Reply Value} {c d : Carried} → r ≡ refusal 11 c → r ≡ refusal 10 d → ⊥
 eleven-ten p q = let z : _≡_ {A = ℕ} 11 10 = cc in omega arith
 
 module _ (age : Option ℕ) (places i : ℕ) (a b : List Hop) (r : Reply Value) (c : Carried) where
   connected-ten : Walked age places i a b alongLast r → r ≡ refusal 10 c → ⊥
-  connected-ten (arrives x y e k) z =
-      only-of NotTen (alongLast x y) 10 c (along-other NotTen (λ e. omega arith) (λ e. omega arith) (λ e. omega arith) x y) (sym e ∙ z) refl
+  connected-ten (arrives x y q e k) z = never (posed-joined (other 10) refl refl refl x y) (sym e ∙ z)
   connected-ten (halts h e f) z = eleven-ten e z
 
   ten : Walked age places i a b (λ x y. refusal 10 nothing) r → (r ≡ refusal 10 c) ↔ ((c ≡ nothing) × Every (Inside i) (a ++ b))
-  ten (arrives x y e k) = (λ z. ((cc), k), λ z. e ∙ ap (refusal 10) (sym (z .0)))
+  ten (arrives x y q e k) = (λ z. ((cc), k), λ z. e ∙ ap (refusal 10) (sym (z .0)))
   ten (halts h e f) = (
     λ z. absurd (eleven-ten e z),
     λ z. absurd (not-both age places i a b (λ x y. refusal 10 nothing) r h (z .1) f),

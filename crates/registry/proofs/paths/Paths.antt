@@ -1,6 +1,6 @@
 -- Connected frames are known, and what is asked of them is answered from the hops of their path.
 use Prim.Native.Nat.{ℕ, zero, suc}
-use mathlib.Core.Path.{_≡_, refl, sym, ap, _∙_}
+use mathlib.Core.Path.{_≡_, refl, sym, ap, subst⁻¹, _∙_}
 use mathlib.Core.Bool.{Bool, true, false, cond}
 use mathlib.Core.Option.{none, some}
 use mathlib.Core.List.{List, [], _∷_, _++_}
@@ -115,6 +115,10 @@ pub every-unit : (hs : List Hop) → Every (λ x. Unit {0}) hs
 every-unit [] = tt
 every-unit (h ∷ hs) = (tt, every-unit hs)
 
+pub every-map : {P Q : Hop → Type 0} → ((h : Hop) → P h → Q h) → (hs : List Hop) → Every P hs → Every Q hs
+every-map w [] k = tt
+every-map w (h ∷ hs) k = (w h (k .0), every-map w hs (k .1))
+
 pub every-here : (P : Hop → Type 0) (before : List Hop) (h : Hop) (after : List Hop) → Every P (before ++ (h ∷ after)) → P h
 every-here P [] h after k = k .0
 every-here P (x ∷ before) h after k = every-here P before h after (k .1)
@@ -133,3 +137,9 @@ module _ (P Q : Hop → Type 0) (h : Hop) where
     earlier = (k, p .earlier);
     later = p .later;
   }
+
+  -- what P, Q and h itself give, every hop has
+  pub placed-every : (R : Hop → Type 0) → ((x : Hop) → P x → R x) → R h → ((x : Hop) → Q x → R x) → (hs : List Hop) → Placed P h Q hs → Every R hs
+  placed-every R f r g hs p =
+      subst⁻¹ (λ (l : List Hop). Every R l) (p .place)
+      (every-append R (p .before) (h ∷ p .after) (every-map {P = P} {Q = R} f (p .before) (p .earlier)) (r, every-map {P = Q} {Q = R} g (p .after) (p .later)))
