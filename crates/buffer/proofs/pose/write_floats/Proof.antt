@@ -27,10 +27,10 @@ slice-write-part-7 : tie.Need-slice-write-part-7
 slice-write-part-7 c = simp length-set (omega arith)
 
 same-length : tie.Need-same-length
-same-length c = search needs
+same-length c = simp length-set
 
 returns : tie.Need-returns
-returns c = seven-stores (c .args .part .now) _ _ _ _ _ _ _ (c .pre)
+returns c = search (needs, seven-stores)
 
 pub write-floats-spec : {M : Type 1} → statement M
 write-floats-spec =

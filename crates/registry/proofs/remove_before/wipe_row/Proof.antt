@@ -1,4 +1,5 @@
 -- `registry::remove_before::wipe_row` meets its contract: the parts that it lends are the row's.
+use lib.ListN.{length-set}
 use borrow.Author.Needs.{needs}
 use Rattle.registry.specs.Store.{Store}
 use Rattle.registry.specs.Calls.{storeOf}
@@ -77,13 +78,13 @@ slice-write-head : tie.Need-slice-write-head
 slice-write-head c = search needs
 
 same-length : tie.Need-same-length
-same-length c = search needs
+same-length c = simp length-set
 
 same-length-2 : tie.Need-same-length-2
-same-length-2 c = search needs
+same-length-2 c = c .before .before .before .before .instants .given .1
 
 same-length-3 : tie.Need-same-length-3
-same-length-3 c = search needs
+same-length-3 c = c .before .before .poses .given .1
 
 returns : tie.Need-returns
 returns c =

@@ -1,5 +1,6 @@
 -- `registry::addition::put::put_row` meets its contract: the row's parts with the sample put in, then its count; or every word as it was.
-use mathlib.Core.Path.{ap}
+use mathlib.Core.Path.{refl, ap}
+use lib.ListN.{length-set}
 use borrow.Author.Needs.{needs}
 use Rattle.buffer.specs.Answers.{ageOf, insertedReply}
 use Rattle.registry.specs.Store.{Store}
@@ -74,13 +75,13 @@ enum-told : tie.Need-enum-told
 enum-told c = search needs
 
 same-length : tie.Need-same-length
-same-length c = search needs
+same-length c = refl
 
 same-length-2 : tie.Need-same-length-2
-same-length-2 c = search needs
+same-length-2 c = c .before .before .before .before .before .instants .given .1
 
 same-length-3 : tie.Need-same-length-3
-same-length-3 c = search needs
+same-length-3 c = c .before .before .before .poses .given .1
 
 returns : tie.Need-returns
 returns c =
@@ -101,13 +102,13 @@ slice-write-head : tie.Need-slice-write-head
 slice-write-head c = search needs
 
 same-length-4 : tie.Need-same-length-4
-same-length-4 c = search needs
+same-length-4 c = simp length-set
 
 same-length-5 : tie.Need-same-length-5
-same-length-5 c = search needs
+same-length-5 c = c .before .before .before .before .before .before .before .instants .given .1
 
 same-length-6 : tie.Need-same-length-6
-same-length-6 c = search needs
+same-length-6 c = c .before .before .before .before .before .poses .given .1
 
 returns-2 : tie.Need-returns-2
 returns-2 c =
