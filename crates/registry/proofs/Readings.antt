@@ -3,7 +3,7 @@ use Prim.Native.Nat.{ℕ}
 use mathlib.Core.Path.{_≡_, refl, ap, _∙_}
 use mathlib.Core.Option.{none, some}
 use mathlib.Core.List.{[], _∷_}
-use lib.Ieee.{round, add, sub, mul, div, neg, lt, le, ofBits, ofInt, toBits}
+use lib.Ieee.{nan, round, add, sub, mul, div, neg, lt, le, ofBits, ofInt, toBits}
 use Rattle.time.specs.Timestamp.{asSecsF64, share}
 use Rattle.libm.specs.Sqrt.{sqrtAt}
 use Rattle.libm.specs.Libm.{acos, sin}
@@ -13,19 +13,19 @@ use Rattle.geometry.specs.Transform.{validate}
 use Rattle.buffer.specs.Samples.{served, Samples}
 use Rattle.buffer.specs.Row.{rowSound}
 use Rattle.registry.specs.Tree as tree
-use Rattle.registry.specs.Store.{encode, limitsOf, treeOf, sized, Store}
+use Rattle.registry.specs.Store.{encode, limitsOf, treeOf, sized, rowInstants, Store}
 use Rattle.registry.specs.Sound.{noCircle, sound}
 use Rattle.registry.specs.Path.{side, connected, ask, lookup, commonTime}
 use Rattle.registry.specs.Calls.{openOf, onTree, addOf, lookupOf, commonTimeOf}
 use Rattle.time.specs.Float.{zero64, one64, whole}
-use Rattle.time.specs.Reply.{answer, refusal, hop}
+use Rattle.time.specs.Reply.{answer, refusal, nothing, hop}
 use Rattle.geometry.specs.declared.isometry.Isometry.{Isometry}
 use Rattle.geometry.specs.Isometry.{identity}
-use Rattle.buffer.specs.declared.kind.Kind.the-variants.{Dynamic}
-use Rattle.time.specs.declared.stamp.Stamp.the-variants.{At}
+use Rattle.buffer.specs.declared.kind.Kind.the-variants as kind
+use Rattle.time.specs.declared.stamp.Stamp.the-variants.{Static, At}
 use Rattle.registry.specs.Tree.{Edge, Addition}
 use Rattle.registry.specs.Answers.{pose, at}
-use Rattle.registry.specs.Readings.{Holds, ReadingsHold, readings, readingAt, reply, drive, limits, moved, addition, row2, after, ranges}
+use Rattle.registry.specs.Readings.{Holds, ReadingsHold, readings, readingAt, reply, instants, drive, limits, moved, addition, row2, after, ranges}
 
 reading-0 : Holds (readingAt 0)
 unfolding readings sqrtAt round add sub mul div neg lt le ofBits ofInt toBits asSecsF64 share normalize rotateVector blend arc between slerp acos sin isometry.mul isometry.inverse isometry.unrotated isometry.between isometry.interpolate validate served rowSound tree.add encode limitsOf treeOf sized noCircle sound side connected ask lookup commonTime openOf onTree addOf lookupOf commonTimeOf
@@ -47,24 +47,40 @@ reading-4 : Holds (readingAt 4)
 unfolding readings sqrtAt round add sub mul div neg lt le ofBits ofInt toBits asSecsF64 share normalize rotateVector blend arc between slerp acos sin isometry.mul isometry.inverse isometry.unrotated isometry.between isometry.interpolate validate served rowSound tree.add encode limitsOf treeOf sized noCircle sound side connected ask lookup commonTime openOf onTree addOf lookupOf commonTimeOf
 reading-4 = refl
 
-reading-5 : Holds (readingAt 5)
-unfolding readings sqrtAt round add sub mul div neg lt le ofBits ofInt toBits asSecsF64 share normalize rotateVector blend arc between slerp acos sin isometry.mul isometry.inverse isometry.unrotated isometry.between isometry.interpolate validate served rowSound tree.add encode limitsOf treeOf sized noCircle sound side connected ask lookup commonTime openOf onTree addOf lookupOf commonTimeOf
-reading-5 = refl
-
-reading-6 : Holds (readingAt 6)
-unfolding readings sqrtAt round add sub mul div neg lt le ofBits ofInt toBits asSecsF64 share normalize rotateVector blend arc between slerp acos sin isometry.mul isometry.inverse isometry.unrotated isometry.between isometry.interpolate validate served rowSound tree.add encode limitsOf treeOf sized noCircle sound side connected ask lookup commonTime openOf onTree addOf lookupOf commonTimeOf
-reading-6 = refl
-
 -- the longer ones by the stores in between
 
 edge : ℕ → Samples → Edge
-edge p m = record { parent = p; kind = Dynamic; samples = m }
+edge p m = record { parent = p; kind = kind.Dynamic; samples = m }
 
 two : ℕ → Isometry → ℕ → Isometry → Samples
 two i p j q = (i, p) ∷ (j, q) ∷ []
 
 still : ℕ → ℕ → Samples
 still i j = two i identity j identity
+
+-- child 2 under 1 at instant 10 in rows of age 5
+aged : Store
+aged = encode (limits (some 5)) ((2, edge 1 ((10, identity) ∷ [])) ∷ [])
+
+aged-is : after (some 5) (row2 10 ∷ []) ≡ aged
+unfolding readings sqrtAt round add sub mul div neg lt le ofBits ofInt toBits asSecsF64 share normalize rotateVector blend arc between slerp acos sin isometry.mul isometry.inverse isometry.unrotated isometry.between isometry.interpolate validate served rowSound tree.add encode limitsOf treeOf sized noCircle sound side connected ask lookup commonTime openOf onTree addOf lookupOf commonTimeOf aged edge
+aged-is = refl
+
+kept : rowInstants (addOf aged (row2 5) .store) 0 ≡ 5 ∷ 10 ∷ []
+unfolding readings sqrtAt round add sub mul div neg lt le ofBits ofInt toBits asSecsF64 share normalize rotateVector blend arc between slerp acos sin isometry.mul isometry.inverse isometry.unrotated isometry.between isometry.interpolate validate served rowSound tree.add encode limitsOf treeOf sized noCircle sound side connected ask lookup commonTime openOf onTree addOf lookupOf commonTimeOf aged edge
+kept = refl
+
+dropped : rowInstants (addOf aged (row2 4) .store) 0 ≡ 10 ∷ 0 ∷ []
+unfolding readings sqrtAt round add sub mul div neg lt le ofBits ofInt toBits asSecsF64 share normalize rotateVector blend arc between slerp acos sin isometry.mul isometry.inverse isometry.unrotated isometry.between isometry.interpolate validate served rowSound tree.add encode limitsOf treeOf sized noCircle sound side connected ask lookup commonTime openOf onTree addOf lookupOf commonTimeOf aged edge
+dropped = refl
+
+reading-5 : Holds (readingAt 5)
+unfolding readings
+reading-5 = ap (λ (s : Store). instants (rowInstants (addOf s (row2 5) .store) 0)) aged-is ∙ ap instants kept
+
+reading-6 : Holds (readingAt 6)
+unfolding readings
+reading-6 = ap (λ (s : Store). instants (rowInstants (addOf s (row2 4) .store) 0)) aged-is ∙ ap instants dropped
 
 driven : Store
 driven = encode (limits none) ((2, edge 1 (two 0 (moved zero64) 4000000000 (moved (whole 4)))) ∷ [])
@@ -155,9 +171,21 @@ reading-10 : Holds (readingAt 10)
 unfolding readings
 reading-10 = ap (λ (s : Store). reply (commonTimeOf s 3 1)) (ranges-is 20 30 10 19 missing-1 missing-2 missing-3) ∙ ap reply missing
 
+-- child 2 under 1, static
+fixed : Store
+fixed = encode (limits none) ((2, record { parent = 1; kind = kind.Static; samples = (0, identity) ∷ [] }) ∷ [])
+
+fixed-is : after none (addition 2 1 Static identity ∷ []) ≡ fixed
+unfolding readings sqrtAt round add sub mul div neg lt le ofBits ofInt toBits asSecsF64 share normalize rotateVector blend arc between slerp acos sin isometry.mul isometry.inverse isometry.unrotated isometry.between isometry.interpolate validate served rowSound tree.add encode limitsOf treeOf sized noCircle sound side connected ask lookup commonTime openOf onTree addOf lookupOf commonTimeOf fixed
+fixed-is = refl
+
+circle : addOf fixed (addition 1 2 Static (moved nan)) .reply ≡ refusal 7 nothing
+unfolding readings sqrtAt round add sub mul div neg lt le ofBits ofInt toBits asSecsF64 share normalize rotateVector blend arc between slerp acos sin isometry.mul isometry.inverse isometry.unrotated isometry.between isometry.interpolate validate served rowSound tree.add encode limitsOf treeOf sized noCircle sound side connected ask lookup commonTime openOf onTree addOf lookupOf commonTimeOf fixed
+circle = refl
+
 reading-11 : Holds (readingAt 11)
-unfolding readings sqrtAt round add sub mul div neg lt le ofBits ofInt toBits asSecsF64 share normalize rotateVector blend arc between slerp acos sin isometry.mul isometry.inverse isometry.unrotated isometry.between isometry.interpolate validate served rowSound tree.add encode limitsOf treeOf sized noCircle sound side connected ask lookup commonTime openOf onTree addOf lookupOf commonTimeOf
-reading-11 = refl
+unfolding readings
+reading-11 = ap (λ (s : Store). reply (addOf s (addition 1 2 Static (moved nan)) .reply)) fixed-is ∙ ap reply circle
 
 reading-12 : Holds (readingAt 12)
 unfolding readings sqrtAt round add sub mul div neg lt le ofBits ofInt toBits asSecsF64 share normalize rotateVector blend arc between slerp acos sin isometry.mul isometry.inverse isometry.unrotated isometry.between isometry.interpolate validate served rowSound tree.add encode limitsOf treeOf sized noCircle sound side connected ask lookup commonTime openOf onTree addOf lookupOf commonTimeOf

@@ -14,7 +14,10 @@ struct State {
 }
 
 // An empty line and a comment get no answer.
-fn passed_over(line: &[u8]) -> bool {
+fn passed_over(line: &[u8], used: usize) -> bool {
+    if used == 0 {
+        return true;
+    }
     if line.len() == 0 {
         return true;
     }
@@ -22,36 +25,17 @@ fn passed_over(line: &[u8]) -> bool {
 }
 
 // How many bytes of a line are read: none of one that is too long, which is then malformed.
-fn kept(len: usize, over: bool) -> usize
+fn kept(used: usize, over: bool, len: usize) -> usize
     ensures { λ r. ⌜ r ≤ len ⌝ }
 {
-    if over { 0 } else { len }
-}
-
-// The answer with its line end.
-fn answered(
-    line: &[u8],
-    over: bool,
-    head: &mut [u64],
-    instants: &mut [u64],
-    poses: &mut [f64],
-    out: &mut [u8],
-    before: Reply,
-) -> Reply {
-    if passed_over(line) {
-        return before;
+    if over {
+        return 0;
     }
-    let lent = before.lent;
-    let to = output::spare(out, before.at);
-    let n = kept(line.len(), over);
-    let reply = memory::answer(&line[0..n], head, instants, poses, out, to, lent);
-    let at = output::line_end(out, reply.at);
-    let left = reply.lent;
-    Reply { at, lent: left }
+    memory::least(used, len)
 }
 
-// The same of the first `used` bytes.
-fn take_line(
+// The answer to the first `used` bytes, with its line end.
+fn answered(
     line: &[u8],
     used: usize,
     over: bool,
@@ -61,10 +45,16 @@ fn take_line(
     out: &mut [u8],
     before: Reply,
 ) -> Reply {
-    if line.len() < used {
+    if passed_over(line, used) {
         return before;
     }
-    answered(&line[0..used], over, head, instants, poses, out, before)
+    let lent = before.lent;
+    let to = output::spare(out, before.at);
+    let n = kept(used, over, line.len());
+    let reply = memory::answer(&line[0..n], head, instants, poses, out, to, lent);
+    let at = output::line_end(out, reply.at);
+    let left = reply.lent;
+    Reply { at, lent: left }
 }
 
 // Puts a byte at the line's end, if there is room, and answers the next place.
@@ -90,7 +80,7 @@ fn take(
     let over = st.over;
     let before = st.reply;
     if b == b'\n' {
-        let reply = take_line(line, used, over, head, instants, poses, out, before);
+        let reply = answered(line, used, over, head, instants, poses, out, before);
         return State {
             used: 0,
             over: false,
@@ -192,6 +182,6 @@ pub(crate) fn run(
 ) {
     let st = read_all(line, head, instants, poses, out);
     let before = st.reply;
-    let reply = take_line(line, st.used, st.over, head, instants, poses, out, before);
+    let reply = answered(line, st.used, st.over, head, instants, poses, out, before);
     output::flush(out, reply.at);
 }

@@ -68,7 +68,7 @@ fn beyond(part: Lent, most: Lent) -> bool {
 }
 
 // A number of words that a slice has.
-fn least(n: usize, len: usize) -> usize
+pub(crate) fn least(n: usize, len: usize) -> usize
     ensures { λ r. ⌜ r ≤ len ⌝ }
 {
     if n < len { n } else { len }

@@ -1,3 +1,5 @@
+-- `buffer::get::between` meets its contract: the two poses that it reads, interpolated.
+use mathlib.Core.Path.{sym}
 use borrow.Author.Needs.{needs}
 use Rattle.buffer.proofs.get.between.Statement.{statement}
 use Rattle.buffer.proofs.get.between.Tie as tie
@@ -27,7 +29,9 @@ interpolate-requires : tie.Need-interpolate-requires
 interpolate-requires c κs = search needs
 
 returns : tie.Need-returns
-returns c = cc
+returns c =
+    let second = c .before .before .before in
+    rw (sym (second .before .read-pose .ensures), sym (second .read-pose2 .ensures)) (c .interpolate .ensures)
 
 pub between-spec : {M : Type 1} → statement M
 between-spec =

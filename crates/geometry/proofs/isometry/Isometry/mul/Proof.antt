@@ -1,3 +1,5 @@
+-- `geometry::isometry::Isometry::mul` meets its contract: each part is what its callee gives.
+use mathlib.Core.Path.{refl}
 use borrow.Author.Needs.{needs}
 use Rattle.geometry.specs.Isometry.{mul}
 use Rattle.geometry.proofs.isometry.Isometry.mul.Statement.{statement}
@@ -14,7 +16,7 @@ mul-requires c κs = search needs
 
 returns : tie.Need-returns
 unfolding mul
-returns c = cc
+returns c = rw (c .mul .ensures, c .before .add .ensures, c .before .before .rotate-vector .ensures) refl
 
 pub mul-spec : {M : Type 1} → statement M
 mul-spec = tie.close (tie.spec rotate-vector-requires add-requires mul-requires returns)

@@ -1,3 +1,5 @@
+-- `geometry::quaternion::Quaternion::arc` meets its contract: the sum weighted by the three sines.
+use mathlib.Core.Path.{refl}
 use borrow.Author.Needs.{needs}
 use Rattle.geometry.specs.Quaternion.{arc}
 use Rattle.geometry.proofs.quaternion.Quaternion.arc.Statement.{statement}
@@ -17,7 +19,9 @@ weighted-sum-requires c κs = search needs
 
 returns : tie.Need-returns
 unfolding arc
-returns c = cc
+returns c =
+    let third = c .before in
+    rw (c .weighted-sum .ensures, third .sin3 .ensures, third .before .sin2 .ensures, third .before .before .sin .ensures) refl
 
 pub arc-spec : {M : Type 1} → statement M
 arc-spec =
