@@ -23,6 +23,7 @@ use Rattle.registry.specs.Answers.{Value}
 use Rattle.registry.specs.Path.{Hop, chain, hops, side, connected, known, ask, fold, joined, lookupAlong, lookupApart, Span, spanThen, spans, earliestEnd, latestStart, meet}
 use Rattle.registry.specs.PathLaws.{Every}
 use Rattle.registry.specs.Replies.{ofPose, ofTime, answers, posed}
+use Rattle.registry.specs.paths.Walks.{askKnown}
 
 -- ---- steps in order
 
@@ -85,11 +86,6 @@ module _ (R : ℕ → Carried → Bool) (infinite : R 13 nothing ≡ true) (shor
   posed-joined a b = on-then _ (joined-only a b) (λ p. answered refl)
 
 -- ---- the form of both questions
-
--- what is asked of two known frames
-abbrev pub askKnown : Tree → ℕ → ℕ → (List Hop → List Hop → Reply Value) → (List Hop → List Hop → Reply Value) → Reply Value
-askKnown t f g along apart =
-    cond (connected t f g) (along (hops t (side t f g)) (hops t (side t g f))) (apart (hops t (chain t f)) (hops t (chain t g)))
 
 pub ask-fits : {R : ℕ → Carried → Bool} {Q : Value → Bool} (t : Tree) (f g : ℕ) (same : Value) (along apart : List Hop → List Hop → Reply Value)
     → Q same ≡ true → ((x : ℕ) → R 9 (frame x) ≡ true) → Fits R Q (askKnown t f g along apart) → Fits R Q (ask t f g same along apart)

@@ -23,9 +23,9 @@ use Rattle.geometry.specs.declared.isometry.Isometry.{Isometry}
 use Rattle.geometry.specs.Isometry.{identity}
 use Rattle.buffer.specs.declared.kind.Kind.the-variants as kind
 use Rattle.time.specs.declared.stamp.Stamp.the-variants.{Static, At}
-use Rattle.registry.specs.Tree.{Edge, Addition}
+use Rattle.registry.specs.Tree.{Edge, Addition, addition}
 use Rattle.registry.specs.Answers.{pose, at}
-use Rattle.registry.specs.Readings.{Holds, ReadingsHold, readings, readingAt, reply, instants, drive, limits, moved, addition, row2, after, ranges}
+use Rattle.registry.specs.Readings.{Holds, ReadingsHold, readings, readingAt, reply, instants, drive, limits, moved, row2, after, ranges}
 
 reading-0 : Holds (readingAt 0)
 unfolding readings sqrtAt round add sub mul div neg lt le ofBits ofInt toBits asSecsF64 share normalize rotateVector blend arc between slerp acos sin isometry.mul isometry.inverse isometry.unrotated isometry.between isometry.interpolate validate served rowSound tree.add encode limitsOf treeOf sized noCircle sound side connected ask lookup commonTime openOf onTree addOf lookupOf commonTimeOf

@@ -8,14 +8,13 @@ use mathlib.Core.List.{List, [], _∷_}
 use lib.IntN.{pos, negsuc}
 use lib.ListN.{replicate, getD}
 use lib.Ieee.{Float, nan, fin, binary64, round}
-use Rattle.time.specs.declared.stamp.Stamp.{Stamp}
 use Rattle.time.specs.declared.stamp.Stamp.the-variants.{Static, At}
 use Rattle.time.specs.Float.{whole, zero64, one64}
 use Rattle.time.specs.Reply.{Reply, answer, refusal, nothing, norm, hop}
 use Rattle.geometry.specs.declared.isometry.Isometry.{Isometry}
 use Rattle.libm.specs.Sqrt.{sqrt}
 use Rattle.geometry.specs.Isometry.{identity}
-use Rattle.registry.specs.Tree.{Limits, Addition}
+use Rattle.registry.specs.Tree.{Limits, Addition, addition}
 use Rattle.registry.specs.Store.{Store, rowInstants}
 use Rattle.registry.specs.Answers.{Value, done, pose, at}
 use Rattle.registry.specs.Calls.{openOf, addOf, lookupOf, commonTimeOf}
@@ -44,9 +43,6 @@ limits age = record { rows = 2; places = 2; age = age }
 -- lent words for two rows of two samples, opened
 abbrev pub opened : Option ℕ → Store
 opened age = openOf (record { head = replicate 13 7; instants = replicate 4 7; poses = replicate 28 nan }) (limits age) .store
-
-abbrev pub addition : ℕ → ℕ → Stamp → Isometry → Addition
-addition child parent stamp p = record { child = child; parent = parent; stamp = stamp; pose = p }
 
 -- after these additions
 abbrev pub after : Option ℕ → List Addition → Store

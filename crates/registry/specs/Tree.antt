@@ -37,6 +37,9 @@ pub record Addition : Type 0 where
   pub stamp : Stamp
   pub pose : Isometry
 
+abbrev pub addition : ℕ → ℕ → Stamp → Isometry → Addition
+addition child parent stamp pose = record { child = child; parent = parent; stamp = stamp; pose = pose }
+
 abbrev pub kindOf : Stamp → Kind
 kindOf stamp.Static = Static
 kindOf (stamp.At i) = Dynamic

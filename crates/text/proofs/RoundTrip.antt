@@ -16,7 +16,7 @@ use lib.Ieee.Bits.{ofBits-toBits, toBits-lt}
 use Rattle.text.specs.Digits.{glyph, digit, digits, numberFrom, below, places}
 use Rattle.text.specs.Reading.{upToSpace, goingOn, notEmpty, readAt, number, frame, float}
 use Rattle.text.specs.Writing.{numberText, written}
-use Rattle.text.specs.Laws as laws
+use Rattle.text.specs.Laws.{ReadBack, NumberBack, FrameBack, FloatBack, NanNotRead, WrittenBack, NoZeroInFront}
 use Rattle.text.proofs.Glyphs.{digit-glyph, glyph-no-space}
 use Rattle.text.proofs.Places.{places-some, places-hold, first-digit}
 use Rattle.text.proofs.Stores.{length-digits}
@@ -55,7 +55,7 @@ solid-digits base (suc k) n v =
     ∙ ap (λ (b : Bool). digits base k (n / base) ++ cond b [] (glyph (n % base) ∷ upToSpace v)) (ne-eqb (glyph (n % base)) 32 (glyph-no-space (n % base)))
     ∙ sym (append-assoc (digits base k (n / base)) (glyph (n % base) ∷ []) (upToSpace v))
 
-read-back : {A : Type 0} (form : List ℕ → Option A) (a : A) (text : List ℕ) → form text ≡ some a → 0 < length text → Solid text → laws.ReadBack form a text
+read-back : {A : Type 0} (form : List ℕ → Option A) (a : A) (text : List ℕ) → form text ≡ some a → 0 < length text → Solid text → ReadBack form a text
 unfolding readAt
 read-back {A} form a text e p s before after h =
     ap (λ (w : List ℕ). goingOn (notEmpty form w) (length before + length w + 1)) word ∙ filled text e p (length before + length text + 1)
@@ -67,7 +67,7 @@ read-back {A} form a text e p s before after h =
     filled [] e p n = absurd (omega arith)
     filled (c ∷ w) e p n = ap (λ (o : Option A). goingOn o n) e
 
-digits-read : {A : Type 0} (form : List ℕ → Option A) (a : A) (base k n : ℕ) → 0 < k → form (digits base k n) ≡ some a → laws.ReadBack form a (digits base k n)
+digits-read : {A : Type 0} (form : List ℕ → Option A) (a : A) (base k n : ℕ) → 0 < k → form (digits base k n) ≡ some a → ReadBack form a (digits base k n)
 digits-read form a base k n p e = read-back form a (digits base k n) e (omega (arith, length-digits base k n)) (solid-digits base k n)
 
 -- ---- the laws
@@ -75,11 +75,11 @@ digits-read form a base k n p e = read-back form a (digits base k n) e (omega (a
 number-text : (n : ℕ) → n < 2 ^ 64 → number (numberText n) ≡ some n
 number-text n h = ap (below (2 ^ 64)) (number-digits 10 (omega arith) (omega arith) (places 19 n) n (places-hold 19 n (omega arith))) ∙ simp (lt-ltb n (2 ^ 64) h)
 
-pub number-back : laws.NumberBack
-number-back n h = digits-read number n 10 (places 19 n) n (places-some 19 n) (number-text n h)
+pub numberBack : NumberBack
+numberBack n h = digits-read number n 10 (places 19 n) n (places-some 19 n) (number-text n h)
 
-pub frame-back : laws.FrameBack
-frame-back n h = digits-read frame n 10 (places 19 n) n (places-some 19 n) (ap (below (2 ^ 32)) (number-text n (omega arith)) ∙ simp (lt-ltb n (2 ^ 32) h))
+pub frameBack : FrameBack
+frameBack n h = digits-read frame n 10 (places 19 n) n (places-some 19 n) (ap (below (2 ^ 32)) (number-text n (omega arith)) ∙ simp (lt-ltb n (2 ^ 32) h))
 
 float-text : (x : Float) → T (fits binary64 x) → float (digits 16 16 (toBits binary64 x)) ≡ some x
 float-text x f =
@@ -87,16 +87,16 @@ float-text x f =
     let h : b < 2 ^ 64 = toBits-lt binary64 x f in
     simp (number-digits 16 (omega arith) (omega arith) 16 b h, lt-ltb b (2 ^ 64) h, ofBits-toBits binary64 x f)
 
-pub float-back : laws.FloatBack
-float-back x f h = rw h (digits-read float x 16 16 (toBits binary64 x) (omega arith) (float-text x f))
+pub floatBack : FloatBack
+floatBack x f h = rw h (digits-read float x 16 16 (toBits binary64 x) (omega arith) (float-text x f))
 
-pub nan-not-read : laws.NanNotRead
+pub nanNotRead : NanNotRead
 unfolding isNan
-nan-not-read = refl
+nanNotRead = refl
 
-pub written-back : laws.WrittenBack
+pub writtenBack : WrittenBack
 unfolding written
-written-back A form a text back out at room =
+writtenBack A form a text back out at room =
     let w : length (take at out) ≡ at = length-take-le at out (omega arith) in
     let cut : take (at + length text) (take at out ++ text ++ drop (at + length text) out) ≡ take at out ++ (text ++ []) =
     take-at (take at out ++ text) (drop (at + length text) out) (at + length text) (length-append (take at out) text ∙ ap (λ (k : ℕ). k + length text) w)
@@ -104,5 +104,5 @@ written-back A form a text back out at room =
     simp (le-leb (at + length text) (length out) room, cut)
     (subst (λ (p : ℕ). readAt form (take at out ++ (text ++ [])) p ≡ some (a, p + length text + 1)) w (back (take at out) [] refl))
 
-pub no-zero-in-front : laws.NoZeroInFront
-no-zero-in-front n p h e = omega (arith, first-digit 19 n p (omega arith))
+pub noZeroInFront : NoZeroInFront
+noZeroInFront n p h e = omega (arith, first-digit 19 n p (omega arith))

@@ -19,7 +19,7 @@ pub struct Answer {
 
 impl Answer {
     // Done, with nothing carried.
-    pub const DONE: Answer = Answer {
+    pub(crate) const DONE: Answer = Answer {
         number: 0,
         frame: 0,
         has_range: 0,

@@ -68,7 +68,7 @@ pub record Accepted (L : Limits) (t : Tree) (a : Addition) (held : Option Edge) 
   pub few : length (grown (L .age) a held .samples) ≤ L .places
   pub left : u ≡ put (a .child) (grown (L .age) a held) t
 
-answer-in : {A : Type 0} {v w : A} → answer v ≡ answer w → v ≡ w
+pub answer-in : {A : Type 0} {v w : A} → answer v ≡ answer w → v ≡ w
 answer-in e = cc e
 
 accepted-by : (L : Limits) (t : Tree) (a : Addition) (held : Option Edge) (u : Tree) → addTo L t a held ≡ answer u → Accepted L t a held u

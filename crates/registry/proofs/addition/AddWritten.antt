@@ -23,7 +23,7 @@ use Rattle.buffer.specs.Row.{FloatsFit, instantWords, poseWords}
 use Rattle.buffer.proofs.Maps.{Rising, rising-is, rising-put, put-again, length-put-new}
 use Rattle.buffer.proofs.SampleLaws.{insert-empty}
 use Rattle.registry.specs.declared.answer.Answer.{Answer}
-use Rattle.registry.specs.Tree.{Edge, Tree, Limits, Addition, kindOf, instantOf, grown, add}
+use Rattle.registry.specs.Tree.{Edge, Tree, Limits, Addition, addition, kindOf, instantOf, grown, add}
 use Rattle.registry.specs.Store.{Store, rowWords, encode, rowsIn, placesIn, usedIn, rowAt, treeOf, limitsOf}
 use Rattle.registry.specs.Sound.{sound}
 use Rattle.registry.specs.Answers.{done, replyOf}
@@ -31,7 +31,7 @@ use Rattle.registry.specs.Calls.{outcome, storeOf, written}
 use Rattle.registry.specs.layout.Rows.{IsRow, IsAbsent, RowPart}
 use Rattle.registry.specs.addition.NewRow.{RowRoom, emptyRow, rowInserted, withRow}
 use Rattle.registry.specs.soundness.Checks.{SoundStore}
-use Rattle.registry.specs.addition.Adding.{addition, admits, EncodedRow, putInto}
+use Rattle.registry.specs.addition.Adding.{admits, EncodedRow, putInto}
 use Rattle.registry.proofs.answer.Answer as declared
 use Rattle.registry.proofs.layout.SizeLaws.{sized-is}
 use Rattle.registry.proofs.soundness.Rules.{sound-is}

@@ -25,10 +25,10 @@ use Rattle.geometry.proofs.transform.Answer.{the-type}
 use Rattle.registry.proofs.answer.Answer as declared
 use Rattle.registry.specs.declared.answer.Answer.{Answer}
 use Rattle.registry.specs.declared.answer.Answer.the-variants as enum
-use Rattle.registry.specs.Tree.{Edge, Tree, Limits, Addition, isNew, ancestors, member, sameKind, kindOf, otherParent, thatParent, otherKind}
+use Rattle.registry.specs.Tree.{Edge, Tree, Limits, Addition, addition, isNew, ancestors, member, sameKind, kindOf, otherParent, thatParent, otherKind}
 use Rattle.registry.specs.Answers.{Value, done, replyOf}
 use Rattle.registry.specs.Store.{Store, rowsIn, usedIn, treeOf, limitsOf}
-use Rattle.registry.specs.addition.Adding.{addition, posed, admits}
+use Rattle.registry.specs.addition.Adding.{posed, admits}
 use Rattle.registry.proofs.layout.TreeRows.{length-tree}
 use Rattle.registry.proofs.addition.Accepted.{refusal-answer}
 

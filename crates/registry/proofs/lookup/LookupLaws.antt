@@ -19,8 +19,9 @@ use Rattle.registry.specs.Tree.{Tree, member}
 use Rattle.registry.specs.Answers.{Value, pose, static}
 use Rattle.registry.specs.Path.{Hop, chain, hops, side, connected, known, ask, joined, lookupAlong, lookupApart, lookup, spans, meet, commonTime}
 use Rattle.registry.specs.PathLaws.{Every, Rises, LookupRefusals, LookupFromAbove, Unknown, UnknownFrame}
+use Rattle.registry.specs.paths.Walks.{askKnown}
 use Rattle.registry.proofs.paths.Paths.{ask-connected, hops-pass, every-map}
-use Rattle.registry.proofs.Fits.{Fits, answered, refused, Only, other, on-cond, on-then, refusal-fits, never, askKnown, ask-fits, Serves, fold-only, lookup-known, common-time-known}
+use Rattle.registry.proofs.Fits.{Fits, answered, refused, Only, other, on-cond, on-then, refusal-fits, never, ask-fits, Serves, fold-only, lookup-known, common-time-known}
 
 -- every hop of such a tree is refused with 11 alone
 module _ (R : ℕ → Carried → Bool) (unserved : (child : ℕ) (range : Option (ℕ × ℕ)) → R 11 (hop child range) ≡ true) (i : ℕ) where

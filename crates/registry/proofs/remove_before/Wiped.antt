@@ -15,6 +15,7 @@ use Rattle.buffer.proofs.Cases.{both}
 use Rattle.buffer.proofs.SampleLaws.{get-removeBefore}
 use Rattle.registry.specs.Tree.{Edge, Tree, wiped, wipe}
 use Rattle.registry.specs.AsMap.{moving}
+use Rattle.registry.proofs.addition.Accepted.{answer-in}
 
 pub record Wiped (t : Tree) (f i : ℕ) (u : Tree) : Type 0 where
   pub edge : Edge
@@ -33,9 +34,6 @@ kept-poses Dynamic i m j =
     ∙ both (ltb j i)
     (λ e. rw (e, lt-leb i j (ltb-true j i e)))
     (λ e. rw (e, le-leb i j (ltb-false j i e)))
-
-answer-in : {A : Type 0} {v w : A} → answer v ≡ answer w → v ≡ w
-answer-in e = cc e
 
 pub wipe-accepted : (t : Tree) (f i : ℕ) (u : Tree) → wipe t f i ≡ answer u → Wiped t f i u
 unfolding wipe

@@ -6,7 +6,6 @@ use mathlib.Core.Option.{Option}
 use lib.Dec.{eqb, ltb, leb}
 use lib.ListN.{length}
 use Rattle.time.specs.Reply.{Reply, answer, nothing, refuse, _then_}
-use Rattle.time.specs.declared.stamp.Stamp.{Stamp}
 use Rattle.geometry.specs.declared.isometry.Isometry.{Isometry}
 use Rattle.geometry.specs.Transform.{validate}
 use Rattle.buffer.specs.Map.{all, put, rising}
@@ -14,9 +13,6 @@ use Rattle.buffer.specs.Samples.{insert}
 use Rattle.buffer.specs.Row.{Row}
 use Rattle.registry.specs.Tree.{Edge, Tree, Limits, Addition, isNew, ancestors, member, kindOf, otherParent, thatParent, otherKind}
 use Rattle.registry.specs.Store.{Store, encode, treeOf, limitsOf, rowsIn, placesIn, usedIn, rowWord, rowInstants, rowPoses, rowAt}
-
-abbrev pub addition : ℕ → ℕ → Stamp → Isometry → Addition
-addition child parent stamp pose = record { child = child; parent = parent; stamp = stamp; pose = pose }
 
 module _ {A : Type 0} where
   -- the tests of the pose and the frames: 3, 4, 5

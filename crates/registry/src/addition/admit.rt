@@ -15,11 +15,11 @@ ghost use lib.Ieee.{Float};
 ghost use lib.ListN.{length};
 ghost use Rattle.time.specs.declared.stamp.Stamp.{Stamp};
 ghost use Rattle.time.specs.Reply.{answer};
-ghost use Rattle.registry.specs.Tree.{Limits, Tree, sameKind};
+ghost use Rattle.registry.specs.Tree.{Limits, Tree, sameKind, addition};
 ghost use Rattle.registry.specs.Store.{usedIn, rowWord, rowAt, limitsOf, treeOf};
 ghost use Rattle.registry.specs.Answers.{replyOf, done};
 ghost use Rattle.registry.specs.Calls.{storeOf};
-ghost use Rattle.registry.specs.addition.Adding.{addition, posed, admits};
+ghost use Rattle.registry.specs.addition.Adding.{posed, admits};
 ghost use Rattle.registry.specs.layout.Rows.{headOf, RisingRows};
 
 // Refusals 3, 4 and 5.

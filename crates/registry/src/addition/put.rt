@@ -9,13 +9,13 @@ use buffer::insert::Inserted;
 use geometry::isometry::Isometry;
 use time::stamp::Stamp;
 ghost use mathlib.Core.Path.{_≡_};
-ghost use Rattle.registry.specs.Tree.{add};
+ghost use Rattle.registry.specs.Tree.{add, addition};
 ghost use Rattle.registry.specs.Store.{usedIn, limitsOf, treeOf};
 ghost use Rattle.registry.specs.Answers.{replyOf};
 ghost use Rattle.registry.specs.Calls.{outcome, storeOf, written};
 ghost use Rattle.registry.specs.layout.Rows.{headOf, IsRow, IsAbsent, RowPart};
 ghost use Rattle.registry.specs.soundness.Checks.{SoundStore};
-ghost use Rattle.registry.specs.addition.Adding.{addition, EncodedRow, putInto};
+ghost use Rattle.registry.specs.addition.Adding.{EncodedRow, putInto};
 
 // Puts a sample into row r, or 17.
 fn put_row(

@@ -5,12 +5,11 @@ use lib.ListN.{getD}
 use borrow.Author.Needs.{needs}
 use Rattle.time.specs.Reply.{Reply}
 use Rattle.registry.specs.Store.{Store}
-use Rattle.registry.specs.Tree.{Tree, Limits, add}
+use Rattle.registry.specs.Tree.{Tree, Limits, add, addition}
 use Rattle.registry.specs.Calls.{storeOf, addOf}
 use Rattle.registry.specs.declared.soundness.check.Checked.the-variants.{Sizes, UnsoundStore, Sound}
 use Rattle.registry.specs.layout.Rows.{Finds}
 use Rattle.registry.specs.soundness.Checks.{SoundStore}
-use Rattle.registry.specs.addition.Adding.{addition}
 use Rattle.registry.proofs.soundness.SoundStore.{sound-rows}
 use Rattle.registry.proofs.soundness.Called.{TestsFind, written-called, finds-sound, checked-sound}
 use Rattle.registry.proofs.add.add_transform.Statement.{statement}

@@ -2,10 +2,10 @@
 use mathlib.Core.Path.{sym, ap, _∙_}
 use mathlib.Core.Option.{some}
 use borrow.Author.Needs.{needs}
+use Rattle.registry.specs.Tree.{addition}
 use Rattle.registry.specs.Store.{Store, rowAt, treeOf, limitsOf}
 use Rattle.registry.specs.Answers.{replyOf}
 use Rattle.registry.specs.Calls.{storeOf}
-use Rattle.registry.specs.addition.Adding.{addition}
 use Rattle.registry.proofs.soundness.SoundStore.{sound-part, sound-parent}
 use Rattle.registry.proofs.addition.EncodedRows.{sound-held}
 use Rattle.registry.proofs.addition.AddWritten.{refused-written, held-get, held-written}

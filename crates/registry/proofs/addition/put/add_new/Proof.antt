@@ -4,12 +4,12 @@ use mathlib.Core.Path.{_≡_, sym, ap, subst, _∙_}
 use mathlib.Core.Option.{none}
 use borrow.Author.Needs.{needs}
 use Rattle.time.specs.Reply.{answer}
-use Rattle.registry.specs.Tree.{Addition}
+use Rattle.registry.specs.Tree.{Addition, addition}
 use Rattle.registry.specs.Store.{Store, rowsIn, usedIn, treeOf, limitsOf}
 use Rattle.registry.specs.Answers.{done, replyOf}
 use Rattle.registry.specs.Calls.{storeOf, written}
 use Rattle.registry.specs.layout.Rows.{RowPart}
-use Rattle.registry.specs.addition.Adding.{addition, admits, EncodedRow, putInto}
+use Rattle.registry.specs.addition.Adding.{admits, EncodedRow, putInto}
 use Rattle.registry.proofs.soundness.SoundStore.{sound-rows}
 use Rattle.registry.proofs.addition.Admitting.{admits-room}
 use Rattle.registry.proofs.addition.AddWritten.{refused-written, absent-get, row-room, new-asked, new-written}
