@@ -1,4 +1,4 @@
--- That numbers rise, tested between neighbours, and part by part where neighbouring parts share a place.
+-- That numbers rise, tested between neighbours, and chunk by chunk where neighbouring chunks share an element.
 use Prim.Native.Nat.{ℕ, zero, suc, _+_, _-_, _≤_, _<_}
 use mathlib.Core.Path.{_≡_, refl, sym, ap, ap₂, _∙_}
 use mathlib.Core.Bool.{Bool, true, _&&_, and-assoc, and-false, and-true}
@@ -9,8 +9,7 @@ use lib.Dec.{ltb}
 use lib.ListN.{length, getD, take, drop, length-drop}
 use lib.Seq.{drop-cons, drop-drop}
 use borrow.Author.Tests.{lt-ltb, ltb-true}
-use Rattle.buffer.specs.Map.{all}
-use Rattle.buffer.specs.Row.{ascending}
+use Rattle.buffer.specs.Map.{all, ascending}
 use Rattle.buffer.proofs.Cases.{both, and-left}
 use Rattle.buffer.proofs.Alls.{all-weaken}
 
@@ -60,19 +59,19 @@ rising-done flag i l h = rw (few (drop (i - 1) l) (rw length-drop (omega arith))
     few (x ∷ []) h = refl
     few (x ∷ y ∷ l) h = absurd (not-suc-le-zero (le-of-suc-le-suc h))
 
--- ---- by parts
+-- ---- by chunks
 
-two-parts : (k : ℕ) (l : List ℕ) → k < length l → neighbours l ≡ neighbours (take (suc k) l) && neighbours (drop k l)
-two-parts k [] h = absurd (not-suc-le-zero h)
-two-parts zero (x ∷ l) h = refl
-two-parts (suc k) (x ∷ []) h = absurd (not-suc-le-zero (le-of-suc-le-suc h))
-two-parts (suc k) (x ∷ y ∷ l) h = ap (λ b. ltb x y && b) (two-parts k (y ∷ l) (le-of-suc-le-suc h)) ∙ sym (and-assoc (ltb x y) _ _)
+two-chunks : (k : ℕ) (l : List ℕ) → k < length l → neighbours l ≡ neighbours (take (suc k) l) && neighbours (drop k l)
+two-chunks k [] h = absurd (not-suc-le-zero h)
+two-chunks zero (x ∷ l) h = refl
+two-chunks (suc k) (x ∷ []) h = absurd (not-suc-le-zero (le-of-suc-le-suc h))
+two-chunks (suc k) (x ∷ y ∷ l) h = ap (λ b. ltb x y && b) (two-chunks k (y ∷ l) (le-of-suc-le-suc h)) ∙ sym (and-assoc (ltb x y) _ _)
 
 -- w is the width as the code has it
 pub rising-split : (i k w : ℕ) (l : List ℕ) → i + k < length l → w ≡ suc k → ascending (drop i l) ≡ ascending (take w (drop i l)) && ascending (drop (i + k) l)
 rising-split i k w l h q =
     sym (neighbours-is (drop i l))
-    ∙ two-parts k (drop i l) (rw length-drop (omega arith))
+    ∙ two-chunks k (drop i l) (rw length-drop (omega arith))
     ∙ ap₂ (λ a b. a && b)
     (neighbours-is (take (suc k) (drop i l)) ∙ ap (λ (n : ℕ). ascending (take n (drop i l))) (sym q))
     (neighbours-is (drop k (drop i l)) ∙ ap ascending (drop-drop k i l))

@@ -16,7 +16,7 @@ use Rattle.time.specs.Float.{zero64}
 use Rattle.time.specs.Reply.{answer, refusal, nothing}
 use Rattle.geometry.specs.declared.isometry.Isometry.{Isometry}
 use Rattle.buffer.specs.declared.kind.Kind.the-variants.{Static, Dynamic}
-use Rattle.buffer.specs.Map.{put, keep}
+use Rattle.buffer.specs.Map.{keys, put, keep}
 use Rattle.buffer.specs.Samples.{Samples, newest, survives, insert}
 use Rattle.buffer.specs.Words.{replaced, inserted, removed}
 use Rattle.buffer.specs.Row.{floats, instantWords, poseWords, padded, samplesOf, below, Row, RowOutcome, outcome, holding, insertRow, removeBeforeRow, FloatsFit}
@@ -26,40 +26,40 @@ use Rattle.buffer.proofs.SampleLaws.{newest-put}
 use Rattle.buffer.proofs.RowBack.{length-samplesOf, read-back, length-instantWords, words-row, row-words}
 use Rattle.buffer.proofs.Strides.{insert-block, replace-block, remove-blocks}
 use Rattle.buffer.proofs.RowWords.{word, block, instant-blocks}
-use Rattle.buffer.proofs.Places.{keys, cut, place-le, keep-from, put-new, put-held, row-held, rising-held, key-at, place-cut}
+use Rattle.buffer.proofs.Places.{cut, place-le, keep-from, put-new, put-held, row-held, rising-held, key-at, place-cut}
 
--- ---- the words of a row of `places` that holds n samples
+-- ---- the words of a row of this capacity that holds n samples
 
-module _ (places n : ℕ) (m : Samples) (e : length m ≡ n) where
-  removed-instants : (d : ℕ) → d ≤ n → n ≤ places → removed d n 0 (instantWords places m) ≡ instantWords places (drop d m)
+module _ (capacity n : ℕ) (m : Samples) (e : length m ≡ n) where
+  removed-instants : (d : ℕ) → d ≤ n → n ≤ capacity → removed d n 0 (instantWords capacity m) ≡ instantWords capacity (drop d m)
   removed-instants d h g =
-      (λ i. removed (sym (one-mul d) i) ((sym (one-mul n) ∙ ap (λ (k : ℕ). 1 * k) (sym e)) i) 0 (instant-blocks places m i))
-      ∙ remove-blocks word 1 (λ x. refl) places 0 d m (rw e h) (rw e g)
-      ∙ sym (instant-blocks places (drop d m))
+      (λ i. removed (sym (one-mul d) i) ((sym (one-mul n) ∙ ap (λ (k : ℕ). 1 * k) (sym e)) i) 0 (instant-blocks capacity m i))
+      ∙ remove-blocks word 1 (λ x. refl) capacity 0 d m (rw e h) (rw e g)
+      ∙ sym (instant-blocks capacity (drop d m))
 
-  removed-poses : (d : ℕ) → d ≤ n → n ≤ places → removed (7 * d) (7 * n) zero64 (poseWords places m) ≡ poseWords places (drop d m)
+  removed-poses : (d : ℕ) → d ≤ n → n ≤ capacity → removed (7 * d) (7 * n) zero64 (poseWords capacity m) ≡ poseWords capacity (drop d m)
   removed-poses d h g =
-      (λ i. removed (7 * d) (7 * sym e i) zero64 (poseWords places m))
-      ∙ remove-blocks block 7 (λ x. refl) places zero64 d m (rw e h) (rw e g)
+      (λ i. removed (7 * d) (7 * sym e i) zero64 (poseWords capacity m))
+      ∙ remove-blocks block 7 (λ x. refl) capacity zero64 d m (rw e h) (rw e g)
 
-  inserted-instants : (k t : ℕ) (p : Isometry) → k ≤ n → inserted k n (t ∷ []) (instantWords places m) ≡ instantWords places (take k m ++ (t, p) ∷ drop k m)
+  inserted-instants : (k t : ℕ) (p : Isometry) → k ≤ n → inserted k n (t ∷ []) (instantWords capacity m) ≡ instantWords capacity (take k m ++ (t, p) ∷ drop k m)
   inserted-instants k t p h =
-      (λ i. inserted (sym (one-mul k) i) ((sym (one-mul n) ∙ ap (λ (k : ℕ). 1 * k) (sym e)) i) (t ∷ []) (instant-blocks places m i))
-      ∙ insert-block word 1 (λ x. refl) places 0 k (t, p) m (rw e h)
-      ∙ sym (instant-blocks places (take k m ++ (t, p) ∷ drop k m))
+      (λ i. inserted (sym (one-mul k) i) ((sym (one-mul n) ∙ ap (λ (k : ℕ). 1 * k) (sym e)) i) (t ∷ []) (instant-blocks capacity m i))
+      ∙ insert-block word 1 (λ x. refl) capacity 0 k (t, p) m (rw e h)
+      ∙ sym (instant-blocks capacity (take k m ++ (t, p) ∷ drop k m))
 
-  inserted-poses : (k t : ℕ) (p : Isometry) → k ≤ n → inserted (7 * k) (7 * n) (floats p) (poseWords places m) ≡ poseWords places (take k m ++ (t, p) ∷ drop k m)
+  inserted-poses : (k t : ℕ) (p : Isometry) → k ≤ n → inserted (7 * k) (7 * n) (floats p) (poseWords capacity m) ≡ poseWords capacity (take k m ++ (t, p) ∷ drop k m)
   inserted-poses k t p h =
-      (λ i. inserted (7 * k) (7 * sym e i) (floats p) (poseWords places m))
-      ∙ insert-block block 7 (λ x. refl) places zero64 k (t, p) m (rw e h)
+      (λ i. inserted (7 * k) (7 * sym e i) (floats p) (poseWords capacity m))
+      ∙ insert-block block 7 (λ x. refl) capacity zero64 k (t, p) m (rw e h)
 
-  replaced-instants : (k t : ℕ) (p : Isometry) → getD (keys m) k 0 ≡ t → instantWords places m ≡ instantWords places (set m k (t, p))
+  replaced-instants : (k t : ℕ) (p : Isometry) → getD (keys m) k 0 ≡ t → instantWords capacity m ≡ instantWords capacity (set m k (t, p))
   replaced-instants k t p q =
       let d : ℕ × Isometry = (0, p) in
-      ap (padded places 0) (sym (map-set-same (λ x. x .0) m k (t, p) d (sym q ∙ List·getD-map (λ x. x .0) m k d)))
+      ap (padded capacity 0) (sym (map-set-same (λ x. x .0) m k (t, p) d (sym q ∙ List·getD-map (λ x. x .0) m k d)))
 
-  replaced-poses : (k t : ℕ) (p : Isometry) → k < n → replaced (7 * k) (floats p) (poseWords places m) ≡ poseWords places (set m k (t, p))
-  replaced-poses k t p h = replace-block block 7 (λ x. refl) places zero64 k (t, p) m (rw e h)
+  replaced-poses : (k t : ℕ) (p : Isometry) → k < n → replaced (7 * k) (floats p) (poseWords capacity m) ≡ poseWords capacity (set m k (t, p))
+  replaced-poses k t p h = replace-block block 7 (λ x. refl) capacity zero64 k (t, p) m (rw e h)
 
 -- ---- what a call leaves
 
@@ -253,7 +253,7 @@ module _ (n : ℕ) (ts : List ℕ) (fs : List Float) (row : Row n ts fs) (fit : 
         λ i. unlessFull (a i) (b i) m)
         (λ e.
         let room : length m ≤ length ts = ltb-false (length ts) (length m) e in
-        roomy us gs m (omega arith) ∙ ap (λ (places : ℕ). holding places m) l ∙ sym (roomy ts fs m room))
+        roomy us gs m (omega arith) ∙ ap (λ (capacity : ℕ). holding capacity m) l ∙ sym (roomy ts fs m room))
 
     -- it is put in beside what is left
     put-beside : since ≤ t → insertRow none t p r us gs ≡ insertRow age t p n ts fs

@@ -9,7 +9,7 @@ use native.Mathlib.Omega.{arith}
 use lib.ListN.{length, getD}
 use lib.Dec.{eqb, ltb}
 use borrow.Author.Tests.{lt-ltb, le-ltb, eq-eqb, ne-eqb, ltb-true, eqb-true, eqb-false}
-use Rattle.buffer.specs.Map.{Map, all, get, put, keep, rising}
+use Rattle.buffer.specs.Map.{Map, all, keys, get, put, keep, rising}
 use Rattle.buffer.proofs.Cases.{both, none-some, and-both, and-left, and-right, Tri, less, same, more, tri}
 
 -- ---- rising, as a type
@@ -24,17 +24,17 @@ module _ {A : Type 0} where
   Rising [] = Unit {0}
   Rising (x ∷ m) = Floor (x .0) m × Rising m
 
-  floor-of : (k : ℕ) (m : Map A) → all (λ y. ltb k (y .0)) m ≡ true → Floor k m
+  floor-of : (k : ℕ) (m : Map A) → all (ltb k) (keys m) ≡ true → Floor k m
   floor-of k [] e = tt
   floor-of k (x ∷ m) e = (ltb-true k (x .0) (and-left _ _ e), floor-of k m (and-right (ltb k (x .0)) _ e))
 
-  of-floor : (k : ℕ) (m : Map A) → Floor k m → all (λ y. ltb k (y .0)) m ≡ true
+  of-floor : (k : ℕ) (m : Map A) → Floor k m → all (ltb k) (keys m) ≡ true
   of-floor k [] f = refl
   of-floor k (x ∷ m) f = and-both _ _ (lt-ltb k (x .0) (f .0)) (of-floor k m (f .1))
 
   rising-of : (m : Map A) → rising m ≡ true → Rising m
   rising-of [] e = tt
-  rising-of (x ∷ m) e = (floor-of (x .0) m (and-left _ _ e), rising-of m (and-right (all (λ y. ltb (x .0) (y .0)) m) _ e))
+  rising-of (x ∷ m) e = (floor-of (x .0) m (and-left _ _ e), rising-of m (and-right (all (ltb (x .0)) (keys m)) _ e))
 
   of-rising : (m : Map A) → Rising m → rising m ≡ true
   of-rising [] r = refl
@@ -83,12 +83,6 @@ module _ {A : Type 0} where
   floor-at k (x ∷ m) (suc i) d f h = floor-at k m i d (f .1) (omega arith)
 
   -- by index
-  pub rising-at : (m : Map A) (i j : ℕ) (d : ℕ × A) → Rising m → i < j → j < length m → getD m i d .0 < getD m j d .0
-  rising-at [] i j d r h k = absurd (omega arith)
-  rising-at (x ∷ m) i zero d r h k = absurd (omega arith)
-  rising-at (x ∷ m) zero (suc j) d r h k = floor-at (x .0) m j d (r .0) (omega arith)
-  rising-at (x ∷ m) (suc i) (suc j) d r h k = rising-at m i j d (r .1) (omega arith) (omega arith)
-
   -- ---- get
 
   pub get-floor : (k j : ℕ) (m : Map A) → Floor k m → j ≤ k → get m j ≡ none

@@ -1,9 +1,9 @@
 -- A number's place in a rising list: what is below it, what a search has shown, and what is put in, replaced or dropped there.
 use Prim.Native.Nat.{ℕ, zero, suc, _-_, _≤_, _<_, zero-le, suc-le-suc}
 use mathlib.Core.Path.{_≡_, refl, sym, ap, _∙_}
-use mathlib.Core.Bool.{Bool, true, _&&_}
+use mathlib.Core.Bool.{true}
 use mathlib.Core.Option.{Option, some}
-use mathlib.Core.List.{List, [], _∷_, _++_, map}
+use mathlib.Core.List.{List, [], _∷_, _++_}
 use mathlib.Core.Logic.{⊎-elim}
 use native.Mathlib.Nat.{not-suc-le-zero, le-of-suc-le-suc, le-refl, le-of-lt, eq-or-lt-of-le}
 use native.Mathlib.Numerals.{sub-one}
@@ -14,9 +14,9 @@ use lib.Ieee.{Float}
 use Rattle.geometry.specs.declared.isometry.Isometry.{Isometry}
 use lib.Seq.{getD-take, length-take-le}
 use borrow.Author.Tests.{lt-ltb, le-ltb, le-leb, lt-leb, eq-eqb, ne-eqb, ltb-true}
-use Rattle.buffer.specs.Map.{Map, all, put, keep, rising}
+use Rattle.buffer.specs.Map.{Map, all, ascending, keys, put, keep}
 use Rattle.buffer.specs.Samples.{newest, last?, range}
-use Rattle.buffer.specs.Row.{poseOf, samplesOf, ascending, below, Instants, Row}
+use Rattle.buffer.specs.Row.{poseOf, samplesOf, below, Instants, Row}
 use Rattle.buffer.proofs.Cases.{both, and-left, and-right, Tri, less, same, more, tri}
 use Rattle.buffer.proofs.Alls.{all-at}
 use Rattle.buffer.proofs.Maps.{Floor, Rising, rising-is}
@@ -70,9 +70,6 @@ module _ (n : ℕ) (l : List ℕ) (held : Instants n l) where
 -- ---- in a map
 
 module _ {A : Type 0} where
-  abbrev pub keys : Map A → List ℕ
-  keys m = map (λ x. x .0) m
-
   -- t's place
   abbrev pub cut : ℕ → Map A → ℕ
   cut t m = below t (keys m)
@@ -164,14 +161,6 @@ module _ {A : Type 0} where
 -- ---- of a row's instants
 
 module _ {A : Type 0} where
-  all-keys : (test : ℕ → Bool) (m : Map A) → all test (keys m) ≡ all (λ x. test (x .0)) m
-  all-keys test [] = refl
-  all-keys test (x ∷ m) = ap (λ b. test (x .0) && b) (all-keys test m)
-
-  pub ascending-keys : (m : Map A) → ascending (keys m) ≡ rising m
-  ascending-keys [] = refl
-  ascending-keys (x ∷ m) = λ i. all-keys (ltb (x .0)) m i && ascending-keys m i
-
   -- the last of a list that is not empty
   pub last-at : (l : List A) (k : ℕ) (d : A) → length l ≡ suc k → last? l ≡ some (getD l k d)
   last-at [] k d e = absurd (omega arith)
@@ -183,12 +172,12 @@ module _ {A : Type 0} where
 pub row-held : (n : ℕ) (ts : List ℕ) (fs : List Float) → Row n ts fs → Instants n ts
 row-held n ts fs r = record {
   fits = r .fits;
-  rises = ap ascending (sym (held-instants n ts fs (r .fits))) ∙ ascending-keys (samplesOf n ts fs) ∙ r .rises;
+  rises = ap ascending (sym (held-instants n ts fs (r .fits))) ∙ r .rises;
 }
 
 module _ (n : ℕ) (ts : List ℕ) (fs : List Float) (held : Instants n ts) where
   pub rising-held : Rising (samplesOf n ts fs)
-  rising-held = rising-is (samplesOf n ts fs) .0 (sym (ascending-keys (samplesOf n ts fs)) ∙ ap ascending (held-instants n ts fs (held .fits)) ∙ held .rises)
+  rising-held = rising-is (samplesOf n ts fs) .0 (ap ascending (held-instants n ts fs (held .fits)) ∙ held .rises)
 
   pub newest-at : (k : ℕ) → n ≡ suc k → newest (samplesOf n ts fs) ≡ getD ts k 0
   newest-at k e =

@@ -2,7 +2,7 @@
 use Prim.Native.Nat.{ℕ, zero, suc, _+_, _-_, _*_, _≤_}
 use mathlib.Core.Path.{_≡_, refl, sym, ap, _∙_}
 use mathlib.Core.Bool.{true}
-use mathlib.Core.List.{List, [], _∷_, _++_, map}
+use mathlib.Core.List.{List, [], _∷_, _++_}
 use native.Mathlib.Omega.{arith}
 use lib.ListN.{length, take, drop, replicate, length-append, length-drop, length-map, length-replicate, take-append-drop}
 use lib.Seq.{length-take-le, take-add, drop-at}
@@ -10,7 +10,7 @@ use lib.Dec.{eqb}
 use lib.Ieee.{Float}
 use borrow.Author.Tests.{eqb-true}
 use Rattle.time.specs.Float.{zero64}
-use Rattle.buffer.specs.Map.{all}
+use Rattle.buffer.specs.Map.{all, keys}
 use Rattle.buffer.specs.Samples.{Samples}
 use Rattle.buffer.specs.Row.{floats, poseOf, concatMap, padded, instantWords, poseWords, samplesOf, isZero, unusedZero, Row, FloatsFit}
 use Rattle.buffer.proofs.Cases.{and-both, and-left, and-right}
@@ -18,10 +18,7 @@ use Rattle.buffer.proofs.Maps.{Rising, rising-is}
 use Rattle.buffer.proofs.Alls.{all-replicate, all-only}
 use Rattle.buffer.proofs.Floats.{fit-drop, is-zero64, zeros}
 
--- the held words, before the zeros
-abbrev pub instantsOf : Samples → List ℕ
-instantsOf m = map (λ x. x .0) m
-
+-- the held words, before the zeros: the instants are the `keys`
 abbrev pub posesOf : Samples → List Float
 posesOf m = concatMap (λ x. floats (x .1)) m
 
@@ -38,45 +35,45 @@ length-posesOf (x ∷ m) = let ih = length-posesOf m in omega arith
 pub length-padded : {A : Type 0} (n : ℕ) (z : A) (xs : List A) → length xs ≤ n → length (padded n z xs) ≡ n
 length-padded n z xs h = rw (length-append xs (replicate (n - length xs) z), length-replicate (n - length xs) z) (omega arith)
 
-pub length-instantWords : (places : ℕ) (m : Samples) → length m ≤ places → length (instantWords places m) ≡ places
-length-instantWords places m h = length-padded places 0 (instantsOf m) (rw (length-map m (λ x. x .0)) h)
+pub length-instantWords : (capacity : ℕ) (m : Samples) → length m ≤ capacity → length (instantWords capacity m) ≡ capacity
+length-instantWords capacity m h = length-padded capacity 0 (keys m) (rw (length-map m (λ x. x .0)) h)
 
-pub length-poseWords : (places : ℕ) (m : Samples) → length m ≤ places → length (poseWords places m) ≡ 7 * places
-length-poseWords places m h = length-padded (7 * places) zero64 (posesOf m) (rw (length-posesOf m) (omega arith))
+pub length-poseWords : (capacity : ℕ) (m : Samples) → length m ≤ capacity → length (poseWords capacity m) ≡ 7 * capacity
+length-poseWords capacity m h = length-padded (7 * capacity) zero64 (posesOf m) (rw (length-posesOf m) (omega arith))
 
 -- ---- from samples to words and back
 
 -- whatever stands after the held words
-pub samples-back : (m : Samples) (ts : List ℕ) (fs : List Float) → samplesOf (length m) (instantsOf m ++ ts) (posesOf m ++ fs) ≡ m
+pub samples-back : (m : Samples) (ts : List ℕ) (fs : List Float) → samplesOf (length m) (keys m ++ ts) (posesOf m ++ fs) ≡ m
 samples-back [] ts fs = refl
 samples-back (x ∷ m) ts fs = ap {B = Samples} (λ r. x ∷ r) (samples-back m ts fs)
 
-pub read-back : (places : ℕ) (m : Samples) → samplesOf (length m) (instantWords places m) (poseWords places m) ≡ m
-read-back places m = samples-back m (replicate (places - length (instantsOf m)) 0) (replicate (7 * places - length (posesOf m)) zero64)
+pub read-back : (capacity : ℕ) (m : Samples) → samplesOf (length m) (instantWords capacity m) (poseWords capacity m) ≡ m
+read-back capacity m = samples-back m (replicate (capacity - length (keys m)) 0) (replicate (7 * capacity - length (posesOf m)) zero64)
 
-pub words-injective : (places : ℕ) (m n : Samples) → length m ≡ length n → instantWords places m ≡ instantWords places n → poseWords places m ≡ poseWords places n → m ≡ n
-words-injective places m n l e f =
-    sym (read-back places m)
+pub words-injective : (capacity : ℕ) (m n : Samples) → length m ≡ length n → instantWords capacity m ≡ instantWords capacity n → poseWords capacity m ≡ poseWords capacity n → m ≡ n
+words-injective capacity m n l e f =
+    sym (read-back capacity m)
     ∙ (λ i. samplesOf (l i) (e i) (f i))
-    ∙ read-back places n
+    ∙ read-back capacity n
 
 -- after the held words there are zeros
-pub words-unused : (places : ℕ) (m : Samples) → unusedZero (length m) (instantWords places m) (poseWords places m) ≡ true
-words-unused places m =
+pub words-unused : (capacity : ℕ) (m : Samples) → unusedZero (length m) (instantWords capacity m) (poseWords capacity m) ≡ true
+words-unused capacity m =
     rw (
-      drop-at (instantsOf m) (replicate (places - length (instantsOf m)) 0) (length m) (length-map m (λ x. x .0)),
-      drop-at (posesOf m) (replicate (7 * places - length (posesOf m)) zero64) (7 * length m) (length-posesOf m),
+      drop-at (keys m) (replicate (capacity - length (keys m)) 0) (length m) (length-map m (λ x. x .0)),
+      drop-at (posesOf m) (replicate (7 * capacity - length (posesOf m)) zero64) (7 * length m) (length-posesOf m),
     )
     (and-both _ _
-    (all-replicate (eqb 0) (places - length (instantsOf m)) 0 refl)
-    (all-replicate isZero (7 * places - length (posesOf m)) zero64 is-zero64))
+    (all-replicate (eqb 0) (capacity - length (keys m)) 0 refl)
+    (all-replicate isZero (7 * capacity - length (posesOf m)) zero64 is-zero64))
 
-pub words-row : (places : ℕ) (m : Samples) → length m ≤ places → Rising m → Row (length m) (instantWords places m) (poseWords places m)
-words-row places m h r = record {
-  fits = rw (length-instantWords places m h) h;
-  sevens = rw (length-instantWords places m h, length-poseWords places m h);
-  rises = rw (read-back places m) (rising-is m .1 r);
-  unused = words-unused places m;
+pub words-row : (capacity : ℕ) (m : Samples) → length m ≤ capacity → Rising m → Row (length m) (instantWords capacity m) (poseWords capacity m)
+words-row capacity m h r = record {
+  fits = rw (length-instantWords capacity m h) h;
+  sevens = rw (length-instantWords capacity m h, length-poseWords capacity m h);
+  rises = rw (read-back capacity m) (rising-is m .1 r);
+  unused = words-unused capacity m;
 }
 
 -- ---- from words to samples and back
@@ -91,7 +88,7 @@ seven-floats (a ∷ b ∷ c ∷ d ∷ e ∷ []) h = absurd (omega arith)
 seven-floats (a ∷ b ∷ c ∷ d ∷ e ∷ f ∷ []) h = absurd (omega arith)
 seven-floats (a ∷ b ∷ c ∷ d ∷ e ∷ f ∷ g ∷ fs) h = refl
 
-pub held-instants : (n : ℕ) (ts : List ℕ) (fs : List Float) → n ≤ length ts → instantsOf (samplesOf n ts fs) ≡ take n ts
+pub held-instants : (n : ℕ) (ts : List ℕ) (fs : List Float) → n ≤ length ts → keys (samplesOf n ts fs) ≡ take n ts
 held-instants zero ts fs h = refl
 held-instants (suc n) [] fs h = absurd (omega arith)
 held-instants (suc n) (t ∷ ts) fs h = ap {B = List ℕ} (λ r. t ∷ r) (held-instants n ts (drop 7 fs) (omega arith))

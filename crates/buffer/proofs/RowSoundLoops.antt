@@ -14,19 +14,19 @@ use borrow.Author.Tests.{leb-true, leb-false, le-leb, lt-leb, ne-eqb}
 use Rattle.geometry.specs.Transform.{isValid}
 use Rattle.buffer.specs.declared.kind.Kind.{Kind}
 use Rattle.buffer.specs.declared.kind.Kind.the-variants.{Static, Dynamic}
-use Rattle.buffer.specs.Map.{all, rising}
+use Rattle.buffer.specs.Map.{all, ascending, rising}
 use Rattle.buffer.specs.Samples.{newest, survives}
-use Rattle.buffer.specs.Row.{Instants, ascending, instantsSound, poseOf, posesSound, rowSound, isZero, samplesOf}
+use Rattle.buffer.specs.Row.{Instants, instantsSound, poseOf, posesSound, rowSound, isZero, samplesOf}
 use Rattle.buffer.proofs.Cases.{both}
 use Rattle.buffer.proofs.SampleLaws.{fresh-first}
-use Rattle.buffer.proofs.Parts.{take-rest}
+use Rattle.buffer.proofs.Chunks.{take-rest}
 use Rattle.buffer.proofs.RowBack.{held-instants, length-samplesOf}
-use Rattle.buffer.proofs.Places.{ascending-keys, newest-at, rising-held}
+use Rattle.buffer.proofs.Places.{newest-at, rising-held}
 
 -- ---- instants
 
 pub rising-words : (n : ℕ) (ts : List ℕ) (fs : List Float) → n ≤ length ts → rising (samplesOf n ts fs) ≡ ascending (take n ts)
-rising-words n ts fs h = sym (ascending-keys (samplesOf n ts fs)) ∙ ap ascending (held-instants n ts fs h)
+rising-words n ts fs h = ap ascending (held-instants n ts fs h)
 
 pub all-survive : (n : ℕ) (ts : List ℕ) (fs : List Float) (k : ℕ) → all (λ x. survives none k (x .0)) (samplesOf n ts fs) ≡ true
 all-survive zero ts fs k = refl
@@ -94,7 +94,7 @@ poses-more fs n i flag b h e = and-assoc flag b (posesFrom fs n (i + 1)) ∙ ap 
 pub poses-done : (fs : List Float) (n i : ℕ) (flag : Bool) → n ≤ i → flag && posesFrom fs n i ≡ flag
 poses-done fs n i flag h = let e : n - i ≡ 0 = omega arith in rw e (and-true flag)
 
--- a part and what follows it
+-- a chunk and what follows it
 pub poses-split : (fs : List Float) (n i k : ℕ) → i + k ≤ n → posesFrom fs n i ≡ posesFrom fs (i + k) i && posesFrom fs n (i + k)
 poses-split fs n i zero h =
     let e : i + 0 - i ≡ 0 = omega arith in

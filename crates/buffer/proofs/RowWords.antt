@@ -9,14 +9,14 @@ use lib.Seq.{getD-take, getD-drop, drop-drop}
 use lib.Ieee.{Float, nan}
 use Rattle.time.specs.Float.{zero64}
 use Rattle.geometry.specs.declared.isometry.Isometry.{Isometry}
+use Rattle.buffer.specs.Map.{keys}
 use Rattle.buffer.specs.Samples.{Samples}
 use Rattle.buffer.specs.Row.{floats, poseOf, concatMap, instantWords, samplesOf}
-use Rattle.buffer.proofs.RowBack.{instantsOf}
 use Rattle.buffer.proofs.Strides.{blocks}
 
 -- ---- one pose
 
--- seven stores fill a part of seven
+-- seven stores fill a chunk of seven
 pub seven-stores : {A : Type 0} (l : List A) (a b c d e f g : A) → length l ≡ 7
     → set (set (set (set (set (set (set l 0 a) 1 b) 2 c) 3 d) 4 e) 5 f) 6 g ≡ a ∷ b ∷ c ∷ d ∷ e ∷ f ∷ g ∷ []
 seven-stores [] a b c d e f g h = absurd (omega arith)
@@ -35,7 +35,7 @@ read-any [] i d e h = absurd (not-suc-le-zero h)
 read-any (x ∷ l) zero d e h = refl
 read-any (x ∷ l) (suc i) d e h = read-any l i d e (le-of-suc-le-suc h)
 
--- the pose that the code reads from a part of seven
+-- the pose that the code reads from a chunk of seven
 abbrev pub poseRead : List Float → Isometry
 poseRead l = record {
   translation = record { x = getD l 0 nan; y = getD l 1 nan; z = getD l 2 nan };
@@ -61,12 +61,12 @@ word x = x .0 ∷ []
 abbrev pub block : ℕ × Isometry → List Float
 block x = floats (x .1)
 
-map-concat : (m : Samples) → instantsOf m ≡ concatMap word m
+map-concat : (m : Samples) → keys m ≡ concatMap word m
 map-concat [] = refl
 map-concat (x ∷ m) = ap (λ (l : List ℕ). x .0 ∷ l) (map-concat m)
 
-pub instant-blocks : (places : ℕ) (m : Samples) → instantWords places m ≡ blocks word 1 (λ x. refl) places 0 m
-instant-blocks places m = rw (map-concat m, one-mul places)
+pub instant-blocks : (capacity : ℕ) (m : Samples) → instantWords capacity m ≡ blocks word 1 (λ x. refl) capacity 0 m
+instant-blocks capacity m = rw (map-concat m, one-mul capacity)
 
 -- the k-th sample
 pub sample-at : (n : ℕ) (ts : List ℕ) (fs : List Float) (k : ℕ) (d : ℕ × Isometry) → k < n → getD (samplesOf n ts fs) k d ≡ (getD ts k 0, poseOf (drop (7 * k) fs))

@@ -17,7 +17,7 @@ use Rattle.geometry.specs.Isometry.{between, interpolate}
 use Rattle.buffer.specs.declared.kind.Kind.{Kind}
 use Rattle.buffer.specs.declared.kind.Kind.the-variants.{Static, Dynamic}
 use Rattle.buffer.specs.Map.{get, keep}
-use Rattle.buffer.specs.Samples.{Samples, newest, range, last?, among, served}
+use Rattle.buffer.specs.Samples.{Samples, newest, range, last?, betweenSamples, served}
 use Rattle.geometry.specs.Transform.{passes}
 use Rattle.buffer.proofs.Cases.{both, none-some, false-true, and-both, and-left, and-right, Tri, less, same, more, tri}
 use Rattle.buffer.proofs.Maps.{Floor, Rising, get-floor, get-here, get-there}
@@ -58,9 +58,9 @@ get-above : (m : Samples) (t : ℕ) → newest m < t → get m t ≡ none
 get-above [] t h = refl
 get-above (x ∷ m) t h = rw (ne-eqb t (x .0) (λ e. omega arith)) (get-above m t (omega arith))
 
-among-above : (unserved : Reply Isometry) (x : Option (ℕ × Isometry)) (t : ℕ) → among unserved x none t ≡ unserved
-among-above unserved none t = refl
-among-above unserved (some x) t = refl
+betweenSamples-above : (unserved : Reply Isometry) (x : Option (ℕ × Isometry)) (t : ℕ) → betweenSamples unserved x none t ≡ unserved
+betweenSamples-above unserved none t = refl
+betweenSamples-above unserved (some x) t = refl
 
 pub served-before : (child : ℕ) (x : ℕ × Isometry) (m : Samples) (t : ℕ) → Rising (x ∷ m) → t < x .0
     → served child Dynamic (x ∷ m) t ≡ refusal 11 (hop child (range (x ∷ m)))
@@ -72,7 +72,7 @@ pub served-after : (child : ℕ) (m : Samples) (t : ℕ) → newest m < t → se
 unfolding served
 served-after child m t h =
     rw (get-above m t h, none-above m t (omega arith))
-    (among-above (refusal 11 (hop child (range m))) (last? (keep (λ i. ltb i t) m)) t)
+    (betweenSamples-above (refusal 11 (hop child (range m))) (last? (keep (λ i. ltb i t) m)) t)
 
 pub served-outside : (child : ℕ) (m : Samples) (t : ℕ) → Rising m → within (range m) t ≡ false → served child Dynamic m t ≡ refusal 11 (hop child (range m))
 served-outside child [] t r h = served-empty child Dynamic t

@@ -34,9 +34,9 @@ abbrev pub Single : Kind → Samples → Type 0
 Single Static m = (p : Isometry) × (m ≡ (0, p) ∷ [])
 Single Dynamic m = Unit {0}
 
--- the samples of a sound row of so many places, of either kind
-pub record SoundSamples (age : Option ℕ) (places : ℕ) (kind : Kind) (m : Samples) : Type 0 where
-  pub few : length m ≤ places
+-- the samples of a sound row of this capacity, of either kind
+pub record SoundSamples (age : Option ℕ) (capacity : ℕ) (kind : Kind) (m : Samples) : Type 0 where
+  pub few : length m ≤ capacity
   pub single : Single kind m
   pub rises : Rising m
   pub fresh : Fresh age m
@@ -66,17 +66,17 @@ single-fresh age m s = single-all (Fresh age) m s (λ p. and-both _ _ (survives-
 
 -- ---- the rules, as facts
 
-pub instants-of : (age : Option ℕ) (places : ℕ) (kind : Kind) (m : Samples) → instantsSound age places kind m ≡ true → Single kind m × Rising m × Fresh age m
-instants-of age places Static m e =
+pub instants-of : (age : Option ℕ) (capacity : ℕ) (kind : Kind) (m : Samples) → instantsSound age capacity kind m ≡ true → Single kind m × Rising m × Fresh age m
+instants-of age capacity Static m e =
     let s = single-of m e in
     (s, single-all Rising m s (λ p. (tt, tt)), single-fresh age m s)
-instants-of age places Dynamic m e =
-    let a = and-left (leb (length m) places && rising m) _ e in
-    (tt, rising-is m .0 (and-right (leb (length m) places) (rising m) a), and-right (leb (length m) places && rising m) _ e)
+instants-of age capacity Dynamic m e =
+    let a = and-left (leb (length m) capacity && rising m) _ e in
+    (tt, rising-is m .0 (and-right (leb (length m) capacity) (rising m) a), and-right (leb (length m) capacity && rising m) _ e)
 
-pub of-instants : (age : Option ℕ) (places : ℕ) (kind : Kind) (m : Samples) → SoundSamples age places kind m → instantsSound age places kind m ≡ true
-of-instants age places Static m s = of-single m (s .single)
-of-instants age places Dynamic m s = and-both _ _ (and-both _ _ (le-leb (length m) places (s .few)) (rising-is m .1 (s .rises))) (s .fresh)
+pub of-instants : (age : Option ℕ) (capacity : ℕ) (kind : Kind) (m : Samples) → SoundSamples age capacity kind m → instantsSound age capacity kind m ≡ true
+of-instants age capacity Static m s = of-single m (s .single)
+of-instants age capacity Dynamic m s = and-both _ _ (and-both _ _ (le-leb (length m) capacity (s .few)) (rising-is m .1 (s .rises))) (s .fresh)
 
 row-sound-of : (age : Option ℕ) (kind : Kind) (count : ℕ) (ts : List ℕ) (fs : List Float) → rowSound age kind count ts fs ≡ true → RowSound age kind count ts fs
 unfolding rowSound
@@ -116,14 +116,14 @@ row-sound-is age kind count ts fs = (row-sound-of age kind count ts fs, of-row-s
 -- ---- samples and words
 
 -- the words of sound samples are a sound row
-pub words-sound : (age : Option ℕ) (places : ℕ) (kind : Kind) (m : Samples) → SoundSamples age places kind m
-    → rowSound age kind (length m) (instantWords places m) (poseWords places m) ≡ true
-words-sound age places kind m s =
-    of-row-sound age kind (length m) (instantWords places m) (poseWords places m)
+pub words-sound : (age : Option ℕ) (capacity : ℕ) (kind : Kind) (m : Samples) → SoundSamples age capacity kind m
+    → rowSound age kind (length m) (instantWords capacity m) (poseWords capacity m) ≡ true
+words-sound age capacity kind m s =
+    of-row-sound age kind (length m) (instantWords capacity m) (poseWords capacity m)
     (record {
-      fits = rw (length-instantWords places m (s .few)) (s .few);
-      samples = rw (read-back places m, length-instantWords places m (s .few)) s;
-      unused = words-unused places m;
+      fits = rw (length-instantWords capacity m (s .few)) (s .few);
+      samples = rw (read-back capacity m, length-instantWords capacity m (s .few)) s;
+      unused = words-unused capacity m;
     })
 
 -- a sound row is what this layer asks for, and the words of its samples
@@ -153,23 +153,23 @@ validate-answers p e =
     let n = quaternion.norm (p .rotation) in
     two-tests (not (vector.isFinite (p .translation) && quaternion.isFinite (p .rotation))) (lt tolerance (abs (n ⊖ one64))) (norm n) p e
 
-pub held-valid : (age : Option ℕ) (places : ℕ) (kind : Kind) (m : Samples) → SoundSamples age places kind m → (i : ℕ) (p : Isometry) → get m i ≡ some p → passes (validate p) ≡ true
-held-valid age places kind m s i p g = all-get (λ x. passes (validate (x .1))) m (s .rises) .0 (s .valid) i p g
+pub held-valid : (age : Option ℕ) (capacity : ℕ) (kind : Kind) (m : Samples) → SoundSamples age capacity kind m → (i : ℕ) (p : Isometry) → get m i ≡ some p → passes (validate p) ≡ true
+held-valid age capacity kind m s i p g = all-get (λ x. passes (validate (x .1))) m (s .rises) .0 (s .valid) i p g
 
 -- a sound row is served exactly at the times that it covers
-pub sound-served : (age : Option ℕ) (places child : ℕ) (kind : Kind) (m : Samples) (t : ℕ) → SoundSamples age places kind m → passes (served child kind m t) ≡ covers (coverage kind m) t
-sound-served age places child Static m t s =
+pub sound-served : (age : Option ℕ) (capacity child : ℕ) (kind : Kind) (m : Samples) (t : ℕ) → SoundSamples age capacity kind m → passes (served child kind m t) ≡ covers (coverage kind m) t
+sound-served age capacity child Static m t s =
     served-passes child Static m t (s .rises) ∙ single-all (λ l. serves Static l t ≡ true) m (s .single) (λ p. refl)
-sound-served age places child Dynamic m t s = served-passes child Dynamic m t (s .rises) ∙ sym (covers-within m t)
+sound-served age capacity child Dynamic m t s = served-passes child Dynamic m t (s .rises) ∙ sym (covers-within m t)
 
 -- ---- what keeps samples sound
 
-pub sound-empty : (age : Option ℕ) (places : ℕ) → SoundSamples age places Dynamic []
-sound-empty age places = record { few = omega arith; single = tt; rises = tt; fresh = refl; valid = refl }
+pub sound-empty : (age : Option ℕ) (capacity : ℕ) → SoundSamples age capacity Dynamic []
+sound-empty age capacity = record { few = omega arith; single = tt; rises = tt; fresh = refl; valid = refl }
 
-pub sound-insert : (age : Option ℕ) (places i : ℕ) (p : Isometry) (m : Samples) → SoundSamples age places Dynamic m → passes (validate p) ≡ true
-    → length (insert age i p m) ≤ places → SoundSamples age places Dynamic (insert age i p m)
-sound-insert age places i p m s v h = record {
+pub sound-insert : (age : Option ℕ) (capacity i : ℕ) (p : Isometry) (m : Samples) → SoundSamples age capacity Dynamic m → passes (validate p) ≡ true
+    → length (insert age i p m) ≤ capacity → SoundSamples age capacity Dynamic (insert age i p m)
+sound-insert age capacity i p m s v h = record {
   few = h;
   single = tt;
   rises = rising-insert age i p m (s .rises);
@@ -178,8 +178,8 @@ sound-insert age places i p m s v h = record {
 }
 
 -- a static row's first pose, and one that replaces it
-pub sound-single : (age : Option ℕ) (places : ℕ) (p : Isometry) → 1 ≤ places → passes (validate p) ≡ true → SoundSamples age places Static ((0, p) ∷ [])
-sound-single age places p h v = record {
+pub sound-single : (age : Option ℕ) (capacity : ℕ) (p : Isometry) → 1 ≤ capacity → passes (validate p) ≡ true → SoundSamples age capacity Static ((0, p) ∷ [])
+sound-single age capacity p h v = record {
   few = h;
   single = (p, refl);
   rises = (tt, tt);
@@ -187,12 +187,12 @@ sound-single age places p h v = record {
   valid = and-both _ _ v refl;
 }
 
-pub insert-static : (age : Option ℕ) (places : ℕ) (p : Isometry) (m : Samples) → SoundSamples age places Static m → insert age 0 p m ≡ (0, p) ∷ []
-insert-static age places p m s = single-all (λ l. insert age 0 p l ≡ (0, p) ∷ []) m (s .single) (λ q. insert-single age 0 q p)
+pub insert-static : (age : Option ℕ) (capacity : ℕ) (p : Isometry) (m : Samples) → SoundSamples age capacity Static m → insert age 0 p m ≡ (0, p) ∷ []
+insert-static age capacity p m s = single-all (λ l. insert age 0 p l ≡ (0, p) ∷ []) m (s .single) (λ q. insert-single age 0 q p)
 
-pub sound-removeBefore : (age : Option ℕ) (places : ℕ) (kind : Kind) (i : ℕ) (m : Samples) → SoundSamples age places kind m → SoundSamples age places kind (removeBefore kind i m)
-sound-removeBefore age places Static i m s = s
-sound-removeBefore age places Dynamic i m s = record {
+pub sound-removeBefore : (age : Option ℕ) (capacity : ℕ) (kind : Kind) (i : ℕ) (m : Samples) → SoundSamples age capacity kind m → SoundSamples age capacity kind (removeBefore kind i m)
+sound-removeBefore age capacity Static i m s = s
+sound-removeBefore age capacity Dynamic i m s = record {
   few = let h = s .few in omega (arith, length-removeBefore-le Dynamic i m);
   single = tt;
   rises = rising-removeBefore Dynamic i m (s .rises);

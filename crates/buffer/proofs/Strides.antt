@@ -65,15 +65,15 @@ module _ {X A : Type 0} (f : X → List A) (w : ℕ) (u : (x : X) → length (f 
       ap (λ (n : ℕ). drop n (f x ++ concatMap f xs)) (w-suc w k ∙ ap (λ (m : ℕ). m + w * k) (sym (u x)))
       ∙ drop-append-add (f x) (concatMap f xs) (w * k) ∙ drop-concat k xs
 
-module _ {X A : Type 0} (f : X → List A) (w : ℕ) (u : (x : X) → length (f x) ≡ w) (places : ℕ) (z : A) where
-  -- the blocks of a list of values, in a row of `places`
+module _ {X A : Type 0} (f : X → List A) (w : ℕ) (u : (x : X) → length (f x) ≡ w) (capacity : ℕ) (z : A) where
+  -- the blocks of a list of values, in a row of this capacity
   abbrev pub blocks : List X → List A
-  blocks xs = padded (w * places) z (concatMap f xs)
+  blocks xs = padded (w * capacity) z (concatMap f xs)
 
-  pub length-blocks : (xs : List X) → length xs ≤ places → length (blocks xs) ≡ w * places
+  pub length-blocks : (xs : List X) → length xs ≤ capacity → length (blocks xs) ≡ w * capacity
   length-blocks xs h =
       let n : length (concatMap f xs) ≡ w * length xs = length-concat f w u xs in
-      let le : w * length xs ≤ w * places = mul-le-mul-left w h in
+      let le : w * length xs ≤ w * capacity = mul-le-mul-left w h in
       simp (length-append, length-replicate) (omega arith)
 
   -- a block put in at k
@@ -86,9 +86,9 @@ module _ {X A : Type 0} (f : X → List A) (w : ℕ) (u : (x : X) → length (f 
       rw (take-concat f w u k xs, drop-concat f w u k xs) (sym (concat-append f (take k xs) (y ∷ drop k xs))) in
       let le : w * k ≤ w * length xs = mul-le-mul-left w h in
       let m : length (take (w * k) c ++ (f y ++ drop (w * k) c)) ≡ length c + length (f y) = simp (length-append, length-take, length-drop) (omega arith) in
-      let q : w * places - length c - length (f y) ≡ w * places - length (concatMap f (take k xs ++ y ∷ drop k xs)) = omega (arith, sym (ap length e) ∙ m) in
-      inserted-front (w * k) (w * length xs) (f y) c (replicate (w * places - length c) z) n le
-      ∙ rw (e, drop-replicate (length (f y)) (w * places - length c) z, q)
+      let q : w * capacity - length c - length (f y) ≡ w * capacity - length (concatMap f (take k xs ++ y ∷ drop k xs)) = omega (arith, sym (ap length e) ∙ m) in
+      inserted-front (w * k) (w * length xs) (f y) c (replicate (w * capacity - length c) z) n le
+      ∙ rw (e, drop-replicate (length (f y)) (w * capacity - length c) z, q)
 
   -- another block at k
   pub replace-block : (k : ℕ) (y : X) (xs : List X) → k < length xs → replaced (w * k) (f y) (blocks xs) ≡ blocks (set xs k y)
@@ -99,17 +99,17 @@ module _ {X A : Type 0} (f : X → List A) (w : ℕ) (u : (x : X) → length (f 
       let e : take (w * k) c ++ (f y ++ drop (w * suc k) c) ≡ concatMap f (set xs k y) =
       rw (take-concat f w u k xs, drop-concat f w u (suc k) xs, set-split xs k y h) (sym (concat-append f (take k xs) (y ∷ drop (suc k) xs))) in
       let m : length (concatMap f (set xs k y)) ≡ length c = length-concat f w u (set xs k y) ∙ ap (λ (i : ℕ). w * i) (length-set xs k y) ∙ sym n in
-      replaced-front (w * k) (w * suc k) (f y) c (replicate (w * places - length c) z) (rw (u y) (sym (mul-suc w k))) (rw n le)
+      replaced-front (w * k) (w * suc k) (f y) c (replicate (w * capacity - length c) z) (rw (u y) (sym (mul-suc w k))) (rw n le)
       ∙ rw (e, m)
 
   -- the first k blocks taken out
-  pub remove-blocks : (k : ℕ) (xs : List X) → k ≤ length xs → length xs ≤ places → removed (w * k) (w * length xs) z (blocks xs) ≡ blocks (drop k xs)
+  pub remove-blocks : (k : ℕ) (xs : List X) → k ≤ length xs → length xs ≤ capacity → removed (w * k) (w * length xs) z (blocks xs) ≡ blocks (drop k xs)
   remove-blocks k xs h g =
       let c : List A = concatMap f xs in
       let n : length c ≡ w * length xs = length-concat f w u xs in
       let le : w * k ≤ w * length xs = mul-le-mul-left w h in
-      let room : w * length xs ≤ w * places = mul-le-mul-left w g in
+      let room : w * length xs ≤ w * capacity = mul-le-mul-left w g in
       let m : length (drop (w * k) c) ≡ w * length xs - w * k = length-drop (w * k) c ∙ ap (λ (i : ℕ). i - w * k) n in
-      let q : w * k + (w * places - length c) ≡ w * places - length (drop (w * k) c) = omega arith in
-      removed-front (w * k) (w * length xs) z c (replicate (w * places - length c) z) n le
-      ∙ rw (replicate-append-replicate (w * k) (w * places - length c) z, q, drop-concat f w u k xs)
+      let q : w * k + (w * capacity - length c) ≡ w * capacity - length (drop (w * k) c) = omega arith in
+      removed-front (w * k) (w * length xs) z c (replicate (w * capacity - length c) z) n le
+      ∙ rw (replicate-append-replicate (w * k) (w * capacity - length c) z, q, drop-concat f w u k xs)

@@ -2,7 +2,7 @@
 use Prim.Native.Nat.{ℕ}
 use mathlib.Core.Bool.{Bool, true, cond, _&&_}
 use mathlib.Core.Option.{Option, none, some}
-use mathlib.Core.List.{List, [], _∷_}
+use mathlib.Core.List.{List, [], _∷_, map}
 use lib.Dec.{eqb, ltb}
 
 abbrev pub Map : Type 0 → Type 0
@@ -13,7 +13,16 @@ abbrev pub all : {A : Type 0} → (A → Bool) → List A → Bool
 all test [] = true
 all test (x ∷ xs) = test x && all test xs
 
+-- the numbers rise strictly
+abbrev pub ascending : List ℕ → Bool
+ascending [] = true
+ascending (i ∷ is) = all (ltb i) is && ascending is
+
 module _ {A : Type 0} where
+  -- the numbers of its pairs
+  abbrev pub keys : Map A → List ℕ
+  keys m = map (λ x. x .0) m
+
   -- what stands at the number k, if anything does
   abbrev pub get : Map A → ℕ → Option A
   get [] k = none
@@ -29,7 +38,6 @@ module _ {A : Type 0} where
   keep test [] = []
   keep test (x ∷ m) = cond (test (x .0)) (x ∷ keep test m) (keep test m)
 
-  -- the numbers rise strictly
+  -- its numbers rise strictly
   abbrev pub rising : Map A → Bool
-  rising [] = true
-  rising (x ∷ m) = all (λ y. ltb (x .0) (y .0)) m && rising m
+  rising m = ascending (keys m)

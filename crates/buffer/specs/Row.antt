@@ -1,9 +1,9 @@
 -- The words of one row: its S instants and its 7 x S floats, with the held samples first and zeros after them.
 use Prim.Native.Nat.{ℕ, zero, suc, _-_, _*_, _≤_}
 use mathlib.Core.Path.{_≡_}
-use mathlib.Core.Bool.{Bool, true, false, cond, _&&_}
+use mathlib.Core.Bool.{Bool, true, cond, _&&_}
 use mathlib.Core.Option.{Option}
-use mathlib.Core.List.{List, [], _∷_, _++_, map}
+use mathlib.Core.List.{List, [], _∷_, _++_}
 use lib.ListN.{length, getD, take, drop, replicate}
 use lib.Dec.{T, leb, ltb, eqb}
 use lib.Ieee.{Float, nan, binary64, fits, toBits}
@@ -13,7 +13,7 @@ use Rattle.geometry.specs.declared.isometry.Isometry.{Isometry}
 use Rattle.geometry.specs.Transform.{isValid}
 use Rattle.buffer.specs.declared.kind.Kind.{Kind}
 use Rattle.buffer.specs.declared.kind.Kind.the-variants.{Static, Dynamic}
-use Rattle.buffer.specs.Map.{all, rising}
+use Rattle.buffer.specs.Map.{all, ascending, keys, rising}
 use Rattle.buffer.specs.Samples.{Samples, newest, survives, insert, removeBefore}
 
 -- seven floats: translation x, y, z, then rotation w, x, y, z
@@ -39,12 +39,12 @@ module _ {A B : Type 0} where
 abbrev pub padded : {A : Type 0} → ℕ → A → List A → List A
 padded n z xs = xs ++ replicate (n - length xs) z
 
--- the words of a row of `places` that holds the samples
+-- the words of a row of this capacity that holds the samples
 abbrev pub instantWords : ℕ → Samples → List ℕ
-instantWords places m = padded places 0 (map (λ x. x .0) m)
+instantWords capacity m = padded capacity 0 (keys m)
 
 abbrev pub poseWords : ℕ → Samples → List Float
-poseWords places m = padded (7 * places) zero64 (concatMap (λ x. floats (x .1)) m)
+poseWords capacity m = padded (7 * capacity) zero64 (concatMap (λ x. floats (x .1)) m)
 
 -- the first `count` samples that a row's words hold
 abbrev pub samplesOf : ℕ → List ℕ → List Float → Samples
@@ -55,8 +55,8 @@ samplesOf (suc count) instants poses = (getD instants 0 0, poseOf poses) ∷ sam
 
 -- "a static row has count 1 and instant 0; a moving row has 0 to S strictly rising instants and, with the flag, none below the last less the age"
 abbrev pub instantsSound : Option ℕ → ℕ → Kind → Samples → Bool
-instantsSound age places Static m = eqb (length m) 1 && all (λ x. eqb (x .0) 0) m
-instantsSound age places Dynamic m = leb (length m) places && rising m && all (λ x. survives age (newest m) (x .0)) m
+instantsSound age capacity Static m = eqb (length m) 1 && all (λ x. eqb (x .0) 0) m
+instantsSound age capacity Dynamic m = leb (length m) capacity && rising m && all (λ x. survives age (newest m) (x .0)) m
 
 -- "held poses pass `validate`"
 abbrev pub posesSound : Samples → Bool
@@ -78,11 +78,6 @@ rowSound age kind count instants poses =
     && unusedZero count instants poses
 
 -- ---- places among a row's held instants
-
--- the numbers rise strictly
-abbrev pub ascending : List ℕ → Bool
-ascending [] = true
-ascending (i ∷ is) = all (ltb i) is && ascending is
 
 -- how many of the numbers are below t
 abbrev pub below : ℕ → List ℕ → ℕ
@@ -117,7 +112,7 @@ abbrev pub outcome : Reply ℕ → List ℕ → List Float → RowOutcome
 outcome count instants poses = record { count = count; instants = instants; poses = poses }
 
 abbrev pub holding : ℕ → Samples → RowOutcome
-holding places m = record { count = answer (length m); instants = instantWords places m; poses = poseWords places m }
+holding capacity m = record { count = answer (length m); instants = instantWords capacity m; poses = poseWords capacity m }
 
 -- refused as full, and unchanged, exactly when more than S samples would remain after expiry
 unfoldable pub insertRow : Option ℕ → ℕ → Isometry → ℕ → List ℕ → List Float → RowOutcome

@@ -56,16 +56,16 @@ module _ {A : Type 0} where
   last? (x ∷ []) = some x
   last? (x ∷ y ∷ xs) = last? (y ∷ xs)
 
--- between two neighbours, where both are there
-abbrev pub among : Reply Isometry → Option (ℕ × Isometry) → Option (ℕ × Isometry) → ℕ → Reply Isometry
-among unserved (some x) (some y) t = interpolate (x .1) (y .1) (x .0) (y .0) t
-among unserved (some x) none t = unserved
-among unserved none y t = unserved
+-- the two neighbouring samples interpolated, where both are there
+abbrev pub betweenSamples : Reply Isometry → Option (ℕ × Isometry) → Option (ℕ × Isometry) → ℕ → Reply Isometry
+betweenSamples unserved (some x) (some y) t = interpolate (x .1) (y .1) (x .0) (y .0) t
+betweenSamples unserved (some x) none t = unserved
+betweenSamples unserved none y t = unserved
 
 -- a held pose at its instant; else the last below and the first above interpolated
 abbrev pub servedAt : Reply Isometry → Option Isometry → Samples → ℕ → Reply Isometry
 servedAt unserved (some p) m t = answer p
-servedAt unserved none m t = among unserved (last? (keep (λ i. ltb i t) m)) (head? (keep (ltb t) m)) t
+servedAt unserved none m t = betweenSamples unserved (last? (keep (λ i. ltb i t) m)) (head? (keep (ltb t) m)) t
 
 abbrev pub single : Reply Isometry → Option (ℕ × Isometry) → Reply Isometry
 single unserved none = unserved

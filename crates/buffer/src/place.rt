@@ -1,4 +1,4 @@
-// The search in a row.
+// The binary search in a row.
 ghost use mathlib.Core.Path.{_≡_};
 ghost use lib.ListN.{take};
 ghost use Rattle.buffer.specs.Row.{Instants, below};

@@ -14,34 +14,34 @@ pub(crate) fn read_pose(poses: &[f64], place: usize) -> Isometry
     ensures { λ r. ⌜ r ≡ poseOf (drop (7 * place) (now (poses .entry))) ⌝ }
 {
     let at = 7 * place;
-    let part = &poses[at..at + 7];
+    let chunk = &poses[at..at + 7];
     Isometry {
         translation: Vector3 {
-            x: part[0],
-            y: part[1],
-            z: part[2],
+            x: chunk[0],
+            y: chunk[1],
+            z: chunk[2],
         },
         rotation: Quaternion {
-            w: part[3],
-            x: part[4],
-            y: part[5],
-            z: part[6],
+            w: chunk[3],
+            x: chunk[4],
+            y: chunk[5],
+            z: chunk[6],
         },
     }
 }
 
-// Writes the seven floats of a part.
-fn write_floats(part: &mut [f64], pose: Isometry)
-    requires { ⌜ length (now part) ≡ 7 ⌝ }
-    ensures { λ _. ⌜ now (part .exit) ≡ floats pose ⌝ }
+// Writes the seven floats of a chunk.
+fn write_floats(chunk: &mut [f64], pose: Isometry)
+    requires { ⌜ length (now chunk) ≡ 7 ⌝ }
+    ensures { λ _. ⌜ now (chunk .exit) ≡ floats pose ⌝ }
 {
-    part[0] = pose.translation.x;
-    part[1] = pose.translation.y;
-    part[2] = pose.translation.z;
-    part[3] = pose.rotation.w;
-    part[4] = pose.rotation.x;
-    part[5] = pose.rotation.y;
-    part[6] = pose.rotation.z;
+    chunk[0] = pose.translation.x;
+    chunk[1] = pose.translation.y;
+    chunk[2] = pose.translation.z;
+    chunk[3] = pose.rotation.w;
+    chunk[4] = pose.rotation.x;
+    chunk[5] = pose.rotation.y;
+    chunk[6] = pose.rotation.z;
 }
 
 pub(crate) fn write_pose(poses: &mut [f64], place: usize, pose: Isometry)

@@ -1,5 +1,5 @@
-// Whether a row's words are sound. Every call asks this, so the loops go by parts of 64 places: the tests of a part are joined without a
-// branch, and a part that fails ends the loop.
+// Whether a row's words are sound. Every call asks this, so the loops go by chunks of 64 elements: the tests of a chunk are joined without a
+// branch, and a chunk that fails ends the loop.
 use super::kind::Kind;
 use super::max_age::MaxAge;
 use super::pose;
@@ -11,14 +11,14 @@ ghost use lib.Dec.{eqb};
 ghost use lib.ListN.{length, drop};
 ghost use lib.Ieee.{Float};
 ghost use Rattle.buffer.specs.Answers.{ageOf};
-ghost use Rattle.buffer.specs.Map.{all};
+ghost use Rattle.buffer.specs.Map.{all, ascending};
 ghost use Rattle.buffer.specs.Samples.{newest, survives};
-ghost use Rattle.buffer.specs.Row.{Instants, ascending, instantsSound, isZero, posesSound, rowSound, samplesOf};
+ghost use Rattle.buffer.specs.Row.{Instants, instantsSound, isZero, posesSound, rowSound, samplesOf};
 
-const PART: usize = 64;
+const CHUNK: usize = 64;
 
-// Whether every word of a part is 0.
-fn zero_words_part(s: &[u64]) -> bool
+// Whether every word of a chunk is 0.
+fn zero_words_chunk(s: &[u64]) -> bool
     ensures { λ r. ⌜ r ≡ all (eqb 0) (now (s .entry)) ⌝ }
 {
     let mut zero = true;
@@ -34,13 +34,13 @@ pub fn zero_words(s: &[u64]) -> bool
     ensures { λ r. ⌜ r ≡ all (eqb 0) (now (s .entry)) ⌝ }
 {
     let mut i = 0;
-    while PART <= s.len() - i {
-        if !zero_words_part(&s[i..i + PART]) {
+    while CHUNK <= s.len() - i {
+        if !zero_words_chunk(&s[i..i + CHUNK]) {
             return false;
         }
-        i += PART;
+        i += CHUNK;
     }
-    zero_words_part(&s[i..])
+    zero_words_chunk(&s[i..])
 }
 
 // Whether all 64 bits are 0. A NaN is none, and its bits are not asked.
@@ -53,7 +53,7 @@ fn is_zero(x: f64) -> bool
     f64::to_bits(x) == 0
 }
 
-fn zero_floats_part(s: &[f64]) -> bool
+fn zero_floats_chunk(s: &[f64]) -> bool
     ensures { λ r. ⌜ r ≡ all isZero (now (s .entry)) ⌝ }
 {
     let mut zero = true;
@@ -69,17 +69,17 @@ pub fn zero_floats(s: &[f64]) -> bool
     ensures { λ r. ⌜ r ≡ all isZero (now (s .entry)) ⌝ }
 {
     let mut i = 0;
-    while PART <= s.len() - i {
-        if !zero_floats_part(&s[i..i + PART]) {
+    while CHUNK <= s.len() - i {
+        if !zero_floats_chunk(&s[i..i + CHUNK]) {
             return false;
         }
-        i += PART;
+        i += CHUNK;
     }
-    zero_floats_part(&s[i..])
+    zero_floats_chunk(&s[i..])
 }
 
-// Whether the numbers of a part strictly rise.
-fn rising_part(s: &[u64]) -> bool
+// Whether the numbers of a chunk strictly rise.
+fn rising_chunk(s: &[u64]) -> bool
     ensures { λ r. ⌜ r ≡ ascending (now (s .entry)) ⌝ }
 {
     let mut rising = true;
@@ -91,18 +91,18 @@ fn rising_part(s: &[u64]) -> bool
     rising
 }
 
-// Neighbouring parts share a place.
+// Neighbouring chunks share an element.
 fn rising(s: &[u64]) -> bool
     ensures { λ r. ⌜ r ≡ ascending (now (s .entry)) ⌝ }
 {
     let mut i = 0;
-    while PART < s.len() - i {
-        if !rising_part(&s[i..i + PART + 1]) {
+    while CHUNK < s.len() - i {
+        if !rising_chunk(&s[i..i + CHUNK + 1]) {
             return false;
         }
-        i += PART;
+        i += CHUNK;
     }
-    rising_part(&s[i..])
+    rising_chunk(&s[i..])
 }
 
 // Whether none of the held instants is below the last less the age. They rise, so the first decides.
@@ -137,7 +137,7 @@ fn instants_sound(instants: &[u64], kind: Kind, count: usize, max_age: MaxAge) -
 }
 
 // Whether the poses from one place up to another are valid. Their instants do not matter.
-fn poses_part(poses: &[f64], from: usize, to: usize) -> bool
+fn poses_chunk(poses: &[f64], from: usize, to: usize) -> bool
     requires { ⌜ (from ≤ to) × (7 * to ≤ length (now poses)) ⌝ }
     ensures { λ r. ⌜ r ≡ posesSound (samplesOf (to - from) [] (drop (7 * from) (now (poses .entry)))) ⌝ }
 {
@@ -155,13 +155,13 @@ fn poses_sound(poses: &[f64], count: usize) -> bool
     ensures { λ r. ⌜ ((instants : List ℕ) → r ≡ posesSound (samplesOf count instants (now (poses .entry)))) ⌝ }
 {
     let mut i = 0;
-    while PART <= count - i {
-        if !poses_part(poses, i, i + PART) {
+    while CHUNK <= count - i {
+        if !poses_chunk(poses, i, i + CHUNK) {
             return false;
         }
-        i += PART;
+        i += CHUNK;
     }
-    poses_part(poses, i, count)
+    poses_chunk(poses, i, count)
 }
 
 pub fn row_sound(instants: &[u64], poses: &[f64], kind: Kind, count: usize, max_age: MaxAge) -> bool

@@ -1,7 +1,7 @@
 -- The pose operations are refused with the first number of their order that is due: inverse, interpolation and what an added pose must pass.
 use Prim.Native.Nat.{ℕ, _-_}
 use mathlib.Core.Path.{_≡_, refl}
-use mathlib.Core.Bool.{Bool, true, false, not, _&&_, _||_}
+use mathlib.Core.Bool.{Bool, true, false, not, _&&_}
 use mathlib.Core.Option.{Option, none}
 use native.Mathlib.Omega.{arith}
 use lib.Dec.{eqb, ltb}
@@ -15,7 +15,7 @@ use Rattle.time.specs.Order.{when, dueOr, refused}
 use Rattle.geometry.specs.declared.isometry.Isometry.{Isometry}
 use Rattle.geometry.specs.Vector3 as vector
 use Rattle.geometry.specs.Quaternion as quaternion
-use Rattle.geometry.specs.Isometry.{inverse, unrotated, interpolate}
+use Rattle.geometry.specs.Isometry.{inverse, inverseWithRotation, interpolate}
 use Rattle.geometry.specs.Transform.{tolerance, validate}
 use Rattle.geometry.specs.Order.{inverseTranslation, inverseDue, InverseFirstDue, interpolationDue, InterpolationFirstDue, poseDue, ValidateFirstDue}
 
@@ -41,7 +41,7 @@ refuse-then-due false k c r next later h = h
 -- ---- the laws
 
 pub inverseFirstDue : InverseFirstDue
-unfolding inverse quaternion.normalize unrotated inverseDue
+unfolding inverse quaternion.normalize inverseWithRotation inverseDue
 inverseFirstDue a =
     let n = quaternion.norm (a .rotation) in
     refuse-then-due (not (finite n)) 13 nothing _ _ _

@@ -21,15 +21,15 @@ mul a b = record {
   rotation = quaternion.mul (a .rotation) (b .rotation);
 }
 
--- the inverse by its rotation; 3 for a translation that is not finite
-unfoldable pub unrotated : Isometry → Quaternion → Reply Isometry
-unrotated a rotation =
+-- the inverse, whose rotation is given; 3 for a translation that is not finite
+unfoldable pub inverseWithRotation : Isometry → Quaternion → Reply Isometry
+inverseWithRotation a rotation =
     let translation = vector.scale minusOne (rotateVector rotation (a .translation)) in
     refuse (not (vector.isFinite translation)) 3 nothing (answer (record { translation = translation; rotation = rotation }))
 
 -- the rotation is normalized first (13, 14)
 unfoldable pub inverse : Isometry → Reply Isometry
-inverse a = normalize (a .rotation) then λ q. unrotated a (conjugate q)
+inverse a = normalize (a .rotation) then λ q. inverseWithRotation a (conjugate q)
 
 -- the translation in proportion, also past the end, and the rotation by slerp
 unfoldable pub between : Isometry → Isometry → Float → Isometry

@@ -1,7 +1,7 @@
 // Poses by value, from src/geometry/transform/isometry.rs.
 ghost use mathlib.Core.Path.{_≡_};
 ghost use Rattle.geometry.specs.Answers.{replyOf};
-ghost use Rattle.geometry.specs.Isometry.{identity, mul, inverse, unrotated, interpolate, between};
+ghost use Rattle.geometry.specs.Isometry.{identity, mul, inverse, inverseWithRotation, interpolate, between};
 use super::quaternion::Normalized;
 use super::quaternion::Quaternion;
 use super::transform::Answer;
@@ -43,13 +43,13 @@ impl Isometry {
         match self.rotation.normalize() {
             Normalized::NonFinite => Answer::NonFinite,
             Normalized::ZeroLengthNormalization => Answer::ZeroLengthNormalization,
-            Normalized::Rotation(q) => self.unrotated(q.conjugate()),
+            Normalized::Rotation(q) => self.inverse_with_rotation(q.conjugate()),
         }
     }
 
-    // The inverse, by its rotation.
-    fn unrotated(self, rotation: Quaternion) -> Answer
-        ensures { λ r. ⌜ replyOf r ≡ unrotated self rotation ⌝ }
+    // The inverse, whose rotation is given.
+    fn inverse_with_rotation(self, rotation: Quaternion) -> Answer
+        ensures { λ r. ⌜ replyOf r ≡ inverseWithRotation self rotation ⌝ }
     {
         let translation = rotation.rotate_vector(self.translation).scale(-1.0);
         if translation.is_finite() {

@@ -13,7 +13,7 @@ use Rattle.geometry.specs.declared.isometry.Isometry.{Isometry}
 use Rattle.geometry.specs.declared.quaternion.Quaternion.{Quaternion}
 use Rattle.geometry.specs.Vector3 as vector
 use Rattle.geometry.specs.Quaternion.{norm, epsilon, conjugate, minusOne, normalize, rotateVector}
-use Rattle.geometry.specs.Isometry.{inverse, unrotated}
+use Rattle.geometry.specs.Isometry.{inverse, inverseWithRotation}
 use Rattle.buffer.specs.declared.coverage.Coverage.{Coverage}
 use Rattle.buffer.specs.declared.coverage.Coverage.the-variants.{AllTime, Range, Empty}
 use Rattle.buffer.specs.Samples.{coverage, served}
@@ -68,13 +68,13 @@ module _ (R : ℕ → Carried → Bool) (infinite : R 13 nothing ≡ true) (shor
   unfolding normalize
   normalize-only q = on-refuse (not (finite (norm q))) 13 nothing infinite (on-refuse (lt (norm q) epsilon) 14 nothing short (answered refl))
 
-  unrotated-only : (a : Isometry) (q : Quaternion) → Only R (unrotated a q)
-  unfolding unrotated
-  unrotated-only a q = on-refuse (not (vector.isFinite (vector.scale minusOne (rotateVector q (a .translation))))) 3 nothing far (answered refl)
+  inverseWithRotation-only : (a : Isometry) (q : Quaternion) → Only R (inverseWithRotation a q)
+  unfolding inverseWithRotation
+  inverseWithRotation-only a q = on-refuse (not (vector.isFinite (vector.scale minusOne (rotateVector q (a .translation))))) 3 nothing far (answered refl)
 
   pub inverse-only : (a : Isometry) → Only R (inverse a)
   unfolding inverse
-  inverse-only a = on-then _ (normalize-only (a .rotation)) (λ q. unrotated-only a (conjugate q))
+  inverse-only a = on-then _ (normalize-only (a .rotation)) (λ q. inverseWithRotation-only a (conjugate q))
 
   joined-only : (a b : Option Isometry) → Only R (joined a b)
   joined-only none none = answered refl

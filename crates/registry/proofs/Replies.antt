@@ -18,7 +18,7 @@ use Rattle.geometry.specs.Transform.{tolerance, validate}
 use Rattle.buffer.specs.declared.kind.Kind.{Kind}
 use Rattle.buffer.specs.declared.kind.Kind.the-variants.{Static, Dynamic}
 use Rattle.buffer.specs.Map.{get, keep}
-use Rattle.buffer.specs.Samples.{Samples, range, last?, among, servedAt, single, served}
+use Rattle.buffer.specs.Samples.{Samples, range, last?, betweenSamples, servedAt, single, served}
 use Rattle.registry.specs.Tree.{Edge, Tree, Limits, Addition, isNew, ancestors, member, otherParent, thatParent, otherKind, kindOf, grown, add, wiped, wipe}
 use Rattle.registry.specs.Store.{Store, limitsOf, treeOf, sizesFit, sized}
 use Rattle.registry.specs.Sound.{sound}
@@ -74,14 +74,14 @@ module _ (child : ℕ) (m : Samples) (t : ℕ) where
   single-listed none = refused refl
   single-listed (some x) = answered refl
 
-  among-listed : (x y : Option (ℕ × Isometry)) → Listed (among unserved x y t)
-  among-listed (some x) (some y) = interpolate-listed (x .1) (y .1) (x .0) (y .0) t
-  among-listed (some x) none = refused refl
-  among-listed none y = refused refl
+  betweenSamples-listed : (x y : Option (ℕ × Isometry)) → Listed (betweenSamples unserved x y t)
+  betweenSamples-listed (some x) (some y) = interpolate-listed (x .1) (y .1) (x .0) (y .0) t
+  betweenSamples-listed (some x) none = refused refl
+  betweenSamples-listed none y = refused refl
 
   at-listed : (x : Option Isometry) → Listed (servedAt unserved x m t)
   at-listed (some p) = answered refl
-  at-listed none = among-listed (last? (keep (λ i. ltb i t) m)) (head? (keep (ltb t) m))
+  at-listed none = betweenSamples-listed (last? (keep (λ i. ltb i t) m)) (head? (keep (ltb t) m))
 
   served-listed : (k : Kind) → Listed (served child k m t)
   unfolding served

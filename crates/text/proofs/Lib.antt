@@ -1,9 +1,9 @@
-pub mod Glyphs
+pub mod DigitCharacters
 pub mod Words
 pub mod Forms
 pub mod Numbers
 pub mod Equal
-pub mod Places
+pub mod DigitCounts
 pub mod Stores
 pub mod FloatText
 pub mod RoundTrip

@@ -13,12 +13,12 @@ use lib.ListN.{length, take, drop, length-append}
 use lib.Seq.{length-take-le, take-at, drop-append-seam}
 use lib.Ieee.{Float, binary64, fits, isNan, toBits}
 use lib.Ieee.Bits.{ofBits-toBits, toBits-lt}
-use Rattle.text.specs.Digits.{glyph, digit, digits, numberFrom, below, places}
+use Rattle.text.specs.Digits.{digitCharacter, digit, digits, numberFrom, below, digitCount}
 use Rattle.text.specs.Reading.{upToSpace, goingOn, notEmpty, readAt, number, frame, float}
 use Rattle.text.specs.Writing.{numberText, written}
 use Rattle.text.specs.Laws.{ReadBack, NumberBack, FrameBack, FloatBack, NanNotRead, WrittenBack, NoZeroInFront}
-use Rattle.text.proofs.Glyphs.{digit-glyph, glyph-no-space}
-use Rattle.text.proofs.Places.{places-some, places-hold, first-digit}
+use Rattle.text.proofs.DigitCharacters.{digit-digitCharacter, digitCharacter-no-space}
+use Rattle.text.proofs.DigitCounts.{digitCount-some, digitCount-hold, first-digit}
 use Rattle.text.proofs.Stores.{length-digits}
 
 -- ---- the number of digits that were written
@@ -38,8 +38,8 @@ number-digits base p q zero n h = ap some (sym (lt-one (subst (λ (m : ℕ). n <
 number-digits base p q (suc k) n h =
     let less : n / base < base ^ k = div-lt-iff-lt-mul p .1 (subst (λ (m : ℕ). n < m) (pow-suc base k) h) in
     let r : n % base < base = mod-lt n p in
-    number-append base 0 (n / base) (digits base k (n / base)) (glyph (n % base) ∷ []) (number-digits base p q k (n / base) less)
-    ∙ simp (digit-glyph (n % base) (omega arith), lt-ltb (n % base) base r, div-add-mod' n base)
+    number-append base 0 (n / base) (digits base k (n / base)) (digitCharacter (n % base) ∷ []) (number-digits base p q k (n / base) less)
+    ∙ simp (digit-digitCharacter (n % base) (omega arith), lt-ltb (n % base) base r, div-add-mod' n base)
 
 -- ---- the word that was written
 
@@ -50,10 +50,10 @@ Solid u = (v : List ℕ) → upToSpace (u ++ v) ≡ u ++ upToSpace v
 solid-digits : (base k n : ℕ) → Solid (digits base k n)
 solid-digits base zero n v = refl
 solid-digits base (suc k) n v =
-    ap upToSpace (append-assoc (digits base k (n / base)) (glyph (n % base) ∷ []) v)
-    ∙ solid-digits base k (n / base) (glyph (n % base) ∷ v)
-    ∙ ap (λ (b : Bool). digits base k (n / base) ++ cond b [] (glyph (n % base) ∷ upToSpace v)) (ne-eqb (glyph (n % base)) 32 (glyph-no-space (n % base)))
-    ∙ sym (append-assoc (digits base k (n / base)) (glyph (n % base) ∷ []) (upToSpace v))
+    ap upToSpace (append-assoc (digits base k (n / base)) (digitCharacter (n % base) ∷ []) v)
+    ∙ solid-digits base k (n / base) (digitCharacter (n % base) ∷ v)
+    ∙ ap (λ (b : Bool). digits base k (n / base) ++ cond b [] (digitCharacter (n % base) ∷ upToSpace v)) (ne-eqb (digitCharacter (n % base)) 32 (digitCharacter-no-space (n % base)))
+    ∙ sym (append-assoc (digits base k (n / base)) (digitCharacter (n % base) ∷ []) (upToSpace v))
 
 read-back : {A : Type 0} (form : List ℕ → Option A) (a : A) (text : List ℕ) → form text ≡ some a → 0 < length text → Solid text → ReadBack form a text
 unfolding readAt
@@ -73,13 +73,13 @@ digits-read form a base k n p e = read-back form a (digits base k n) e (omega (a
 -- ---- the laws
 
 number-text : (n : ℕ) → n < 2 ^ 64 → number (numberText n) ≡ some n
-number-text n h = ap (below (2 ^ 64)) (number-digits 10 (omega arith) (omega arith) (places 19 n) n (places-hold 19 n (omega arith))) ∙ simp (lt-ltb n (2 ^ 64) h)
+number-text n h = ap (below (2 ^ 64)) (number-digits 10 (omega arith) (omega arith) (digitCount 19 n) n (digitCount-hold 19 n (omega arith))) ∙ simp (lt-ltb n (2 ^ 64) h)
 
 pub numberBack : NumberBack
-numberBack n h = digits-read number n 10 (places 19 n) n (places-some 19 n) (number-text n h)
+numberBack n h = digits-read number n 10 (digitCount 19 n) n (digitCount-some 19 n) (number-text n h)
 
 pub frameBack : FrameBack
-frameBack n h = digits-read frame n 10 (places 19 n) n (places-some 19 n) (ap (below (2 ^ 32)) (number-text n (omega arith)) ∙ simp (lt-ltb n (2 ^ 32) h))
+frameBack n h = digits-read frame n 10 (digitCount 19 n) n (digitCount-some 19 n) (ap (below (2 ^ 32)) (number-text n (omega arith)) ∙ simp (lt-ltb n (2 ^ 32) h))
 
 float-text : (x : Float) → T (fits binary64 x) → float (digits 16 16 (toBits binary64 x)) ≡ some x
 float-text x f =

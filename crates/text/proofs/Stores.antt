@@ -8,7 +8,7 @@ use native.Mathlib.Omega.{arith}
 use borrow.Author.Tests.{le-leb, lt-leb}
 use lib.ListN.{length, drop, getD, set, length-append, drop-of-length-le}
 use lib.Seq.{sets, sets-eq, set-comm, drop-cons}
-use Rattle.text.specs.Digits.{glyph, digits}
+use Rattle.text.specs.Digits.{digitCharacter, digits}
 use Rattle.text.specs.Writing.{written}
 
 -- a text of k bytes: where there is room the stores are the text
@@ -39,15 +39,15 @@ sets-back (a ∷ ds) out at g =
 
 pub length-digits : (base k n : ℕ) → length (digits base k n) ≡ k
 length-digits base zero n = refl
-length-digits base (suc k) n = length-append (digits base k (n / base)) (glyph (n % base) ∷ []) ∙ omega (arith, length-digits base k (n / base))
+length-digits base (suc k) n = length-append (digits base k (n / base)) (digitCharacter (n % base) ∷ []) ∙ omega (arith, length-digits base k (n / base))
 
 -- a turn that stores the last digit that is left
-pub digits-back : (base i n : ℕ) (out : List ℕ) (at : ℕ) → 0 < i → sets out at (digits base i n) ≡ sets (set out (at + (i - 1)) (glyph (n % base))) at (digits base (i - 1) (n / base))
+pub digits-back : (base i n : ℕ) (out : List ℕ) (at : ℕ) → 0 < i → sets out at (digits base i n) ≡ sets (set out (at + (i - 1)) (digitCharacter (n % base))) at (digits base (i - 1) (n / base))
 digits-back base zero n out at h = absurd (omega arith)
 digits-back base (suc i) n out at h =
-    sets-back (digits base i (n / base)) out at (glyph (n % base))
-    ∙ ap (λ (j : ℕ). sets (set out (at + j) (glyph (n % base))) at (digits base i (n / base))) (length-digits base i (n / base))
-    ∙ ap (λ (j : ℕ). sets (set out (at + j) (glyph (n % base))) at (digits base j (n / base))) e
+    sets-back (digits base i (n / base)) out at (digitCharacter (n % base))
+    ∙ ap (λ (j : ℕ). sets (set out (at + j) (digitCharacter (n % base))) at (digits base i (n / base))) (length-digits base i (n / base))
+    ∙ ap (λ (j : ℕ). sets (set out (at + j) (digitCharacter (n % base))) at (digits base j (n / base))) e
   where
     e : i ≡ suc i - 1
     e = omega arith

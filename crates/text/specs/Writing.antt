@@ -5,11 +5,11 @@ use mathlib.Core.List.{List, [], _∷_, _++_}
 use lib.Dec.{leb}
 use lib.ListN.{length, take, drop}
 use lib.Ieee.{Float, binary64, isNan, toBits}
-use Rattle.text.specs.Digits.{digits, places}
+use Rattle.text.specs.Digits.{digits, digitCount}
 
 -- decimal digits with no zero in front; a 64-bit number has at most 20
 abbrev pub numberText : ℕ → List ℕ
-numberText n = digits 10 (places 19 n) n
+numberText n = digits 10 (digitCount 19 n) n
 
 -- `nan` (110, 97, 110), or the 16 hexadecimal digits of the bits
 abbrev pub floatText : Float → List ℕ

@@ -3,8 +3,7 @@
 ghost use mathlib.Core.Path.{_≡_};
 ghost use Prim.Native.Nat.{_+_, _≤_, _<_};
 ghost use lib.Dec.{leb};
-ghost use Rattle.text.specs.Digits.{digits};
-ghost use Rattle.text.specs.Digits.{glyph as Digits·glyph, places as Digits·places};
+ghost use Rattle.text.specs.Digits.{digitCharacter, digits, digitCount};
 ghost use Rattle.text.specs.Writing.{written, numberText, floatText};
 
 // Whether count bytes from `at` on lie within len.
@@ -21,8 +20,8 @@ fn room(len: usize, at: usize, count: usize) -> bool
 }
 
 // How many digits n has in base ten.
-fn places(n: u64) -> usize
-    ensures { λ r. ⌜ r ≡ Digits·places 19 n ⌝ }
+fn digit_count(n: u64) -> usize
+    ensures { λ r. ⌜ r ≡ digitCount 19 n ⌝ }
 {
     let mut k = 1;
     let mut rest = n;
@@ -34,9 +33,9 @@ fn places(n: u64) -> usize
 }
 
 // The byte of a digit: 48 is `0`, 97 is `a`.
-fn glyph(d: u64) -> u8
+fn digit_character(d: u64) -> u8
     requires { ⌜ d < 16 ⌝ }
-    ensures { λ r. ⌜ r ≡ Digits·glyph d ⌝ }
+    ensures { λ r. ⌜ r ≡ digitCharacter d ⌝ }
 {
     if d < 10 { 48 + d as u8 } else { 87 + d as u8 }
 }
@@ -53,7 +52,7 @@ fn write_digits(out: &mut [u8], at: usize, n: u64, base: u64, k: usize) -> usize
     let mut rest = n;
     while i > 0 {
         i -= 1;
-        out[at + i] = glyph(rest % base);
+        out[at + i] = digit_character(rest % base);
         rest /= base;
     }
     at + k
@@ -77,7 +76,7 @@ pub fn write_bytes(out: &mut [u8], at: usize, text: &[u8]) -> usize
 pub fn write_number(out: &mut [u8], at: usize, n: u64) -> usize
     ensures { λ r. ⌜ (r, now (out .exit)) ≡ written (now (out .entry)) at (numberText n) ⌝ }
 {
-    write_digits(out, at, n, 10, places(n))
+    write_digits(out, at, n, 10, digit_count(n))
 }
 
 // The 16 hexadecimal digits of the bits, or `nan`.

@@ -1,12 +1,11 @@
 -- A query inside its interval has a share, and that is from 0 to 1, since rounding is monotone. Assumes nothing.
-use mathlib.Core.Path.{_≡_, refl, sym, subst, _∙_}
-use mathlib.Core.Bool.{true, false}
+use mathlib.Core.Path.{_≡_, refl, sym, subst}
+use mathlib.Core.Bool.{false}
 use Prim.Native.Nat.{ℕ, _-_, _*_, _^_, _≤_, _<_}
 use native.Mathlib.Nat.{zero-lt-suc, le-of-lt, lt-of-le-of-lt, mul-pos}
 use native.Mathlib.Omega.{arith}
 use lib.Dec.{T}
-use lib.IntN.{pos}
-use lib.Ieee.{Float, fin, binary64, round, le, ofBits}
+use lib.Ieee.{Float, binary64, round, le, ofBits}
 use lib.Ieee.Bits.{is-true}
 use lib.Ieee.Order.{round-mono}
 use lib.Ieee.Positive.{num, den, den-pos}
@@ -25,18 +24,18 @@ unfolding round ofBits
 one-is = refl
 
 abbrev ratio : ℕ → ℕ → Float
-ratio part span = asSecsF64 part ⊘ asSecsF64 span
+ratio elapsed span = asSecsF64 elapsed ⊘ asSecsF64 span
 
-ratio-within : (part span : ℕ) → 0 < span → part ≤ span → span < 2 ^ 64 → T (le zero64 (ratio part span)) × T (le (ratio part span) one64)
-ratio-within part span p h k =
-    let x = asSecsF64 part in
+ratio-within : (elapsed span : ℕ) → 0 < span → elapsed ≤ span → span < 2 ^ 64 → T (le zero64 (ratio elapsed span)) × T (le (ratio elapsed span) one64)
+ratio-within elapsed span p h k =
+    let x = asSecsF64 elapsed in
     let y = asSecsF64 span in
     let y-pos : 0 < num y = seconds-pos span p k in
-    let px : Plain x = seconds-plain part (lt-of-le-of-lt h k) in
+    let px : Plain x = seconds-plain elapsed (lt-of-le-of-lt h k) in
     let py : Plain y = seconds-plain span k in
-    let e : ratio part span ≡ round binary64 false (num x * den y) (num y * den x) = div-plain x y px py y-pos in
+    let e : ratio elapsed span ≡ round binary64 false (num x * den y) (num y * den x) = div-plain x y px py y-pos in
     let b-pos : 0 < num y * den x = mul-pos y-pos (den-pos x) in
-    let c : num x * den y ≤ num y * den x = le→cross x y px py (seconds-mono part span h k) in (
+    let c : num x * den y ≤ num y * den x = le→cross x y px py (seconds-mono elapsed span h k) in (
       subst (λ (z : Float). T (le zero64 z)) (sym e)
           (subst (λ (z : Float). T (le z (round binary64 false (num x * den y) (num y * den x)))) zero-is
           (round-mono binary64 0 1 (num x * den y) (num y * den x) (zero-lt-suc 0) b-pos (nothing (num y * den x) (num x * den y)))),

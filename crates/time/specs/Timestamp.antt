@@ -20,5 +20,5 @@ unfoldable pub share : ℕ → ℕ → ℕ → Reply (Option Float)
 share from to query =
     durationSince to from then λ span.
     cond (eqb span 0) (answer none)
-    (durationSince query from then λ part.
-    answer (some (asSecsF64 part ⊘ asSecsF64 span)))
+    (durationSince query from then λ elapsed.
+    answer (some (asSecsF64 elapsed ⊘ asSecsF64 span)))

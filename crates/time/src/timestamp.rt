@@ -38,15 +38,16 @@ pub enum Ratio {
 pub fn share(from: u64, to: u64, query: u64) -> Ratio
     ensures { λ r. ⌜ ratioReply r ≡ share from to query ⌝ }
 {
-    if to < from {
-        return Ratio::DurationUnderflow;
+    match duration_since(to, from) {
+        Elapsed::DurationUnderflow => Ratio::DurationUnderflow,
+        Elapsed::Nanos(span) => {
+            if span == 0 {
+                return Ratio::ZeroSpan;
+            }
+            match duration_since(query, from) {
+                Elapsed::DurationUnderflow => Ratio::DurationUnderflow,
+                Elapsed::Nanos(elapsed) => Ratio::Share(as_secs_f64(elapsed) / as_secs_f64(span)),
+            }
+        }
     }
-    let span = to - from;
-    if span == 0 {
-        return Ratio::ZeroSpan;
-    }
-    if query < from {
-        return Ratio::DurationUnderflow;
-    }
-    Ratio::Share(as_secs_f64(query - from) / as_secs_f64(span))
 }

@@ -12,12 +12,12 @@ use lib.Dec.{leb}
 use lib.Ieee.{Float}
 use borrow.Author.Tests.{le-leb, leb-true}
 use Rattle.time.specs.Float.{zero64}
-use Rattle.buffer.specs.Map.{put}
+use Rattle.buffer.specs.Map.{keys, put}
 use Rattle.buffer.specs.Words.{replaced, inserted}
 use Rattle.buffer.specs.Samples.{Samples}
 use Rattle.buffer.specs.Row.{padded, concatMap, instantWords, poseWords}
 use Rattle.buffer.proofs.Maps.{Rising}
-use Rattle.buffer.proofs.RowBack.{instantsOf, posesOf, length-instantWords, length-poseWords}
+use Rattle.buffer.proofs.RowBack.{posesOf, length-instantWords, length-poseWords}
 use Rattle.buffer.proofs.Strides.{length-concat, insert-block, replace-block}
 use Rattle.registry.specs.Tree.{Edge, Tree, Limits}
 use Rattle.registry.specs.Store.{flagWord, ageWord, rowWords, encode}
@@ -65,7 +65,7 @@ module _ (L : Limits) (t : Tree) (fits : Fits L t) where
   poses-wide x h = length-poseWords (L .places) (x .1 .samples) (leb-true _ _ h)
 
   times-least : (x : ℕ × Edge) → L .places ≤ length (times x)
-  times-least x = padded-least {A = ℕ} (L .places) 0 (instantsOf (x .1 .samples))
+  times-least x = padded-least {A = ℕ} (L .places) 0 (keys (x .1 .samples))
 
   poses-least : (x : ℕ × Edge) → 7 * L .places ≤ length (poses x)
   poses-least x = padded-least (7 * L .places) zero64 (posesOf (x .1 .samples))

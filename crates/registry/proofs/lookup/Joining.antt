@@ -18,7 +18,7 @@ use Rattle.geometry.specs.declared.transform.Answer.the-variants as transform
 use Rattle.geometry.specs.declared.vector3.Vector3.{Vector3}
 use Rattle.geometry.specs.Vector3 as vector
 use Rattle.geometry.specs.Quaternion.{norm, scale, conjugate, normalize, rotateVector, minusOne, epsilon}
-use Rattle.geometry.specs.Isometry.{unrotated, inverse}
+use Rattle.geometry.specs.Isometry.{inverseWithRotation, inverse}
 use Rattle.geometry.specs.Answers as geometry
 use Rattle.geometry.proofs.transform.Answer.{the-type}
 use Rattle.registry.specs.Answers.{Value, pose}
@@ -59,9 +59,9 @@ refuse-then true b q next m = (λ e. omega arith, λ e. omega arith)
 refuse-then false true q next m = (λ e. omega arith, λ e. omega arith)
 refuse-then false false q next m = m
 
-unrotated-mild : (p : Isometry) (q : Quaternion) → Mild (unrotated p q)
-unfolding unrotated
-unrotated-mild p q =
+inverseWithRotation-mild : (p : Isometry) (q : Quaternion) → Mild (inverseWithRotation p q)
+unfolding inverseWithRotation
+inverseWithRotation-mild p q =
     let v : Vector3 = vector.scale minusOne (rotateVector q (p .translation)) in
     refuse-mild (not (vector.isFinite v)) (record { translation = v; rotation = q })
 
@@ -69,7 +69,7 @@ inverse-mild : (p : Isometry) → Mild (inverse p)
 unfolding inverse normalize
 inverse-mild p =
     let q = p .rotation in
-    refuse-then (not (finite (norm q))) (lt (norm q) epsilon) (scale q (one64 ⊘ norm q)) (λ z. unrotated p (conjugate z)) (unrotated-mild p _)
+    refuse-then (not (finite (norm q))) (lt (norm q) epsilon) (scale q (one64 ⊘ norm q)) (λ z. inverseWithRotation p (conjugate z)) (inverseWithRotation-mild p _)
 
 -- so what is none of a pose, 13 and 14 is 3
 pub inverse-left : (a : Answer) (p : Isometry) → OneOf (1 ∷ 2 ∷ 5 ∷ []) (tagOf the-type a) → geometry.replyOf a ≡ inverse p → refusal 3 nothing ≡ inverse p

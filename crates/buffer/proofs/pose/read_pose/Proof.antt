@@ -9,20 +9,20 @@ use Rattle.buffer.proofs.pose.read_pose.Tie as tie
 mul-at : tie.Need-mul-at
 mul-at c = search needs
 
-add-part : tie.Need-add-part
-add-part c = search needs
+add-chunk : tie.Need-add-chunk
+add-chunk c = search needs
 
-mul-part : tie.Need-mul-part
-mul-part c = search needs
+mul-chunk : tie.Need-mul-chunk
+mul-chunk c = search needs
 
-sub-part : tie.Need-sub-part
-sub-part c = search needs
+sub-chunk : tie.Need-sub-chunk
+sub-chunk c = search needs
 
-part-part-start : tie.Need-part-part-start
-part-part-start c = search needs
+part-chunk-start : tie.Need-part-chunk-start
+part-chunk-start c = search needs
 
-part-part-end : tie.Need-part-part-end
-part-part-end c = search needs
+part-chunk-end : tie.Need-part-chunk-end
+part-chunk-end c = search needs
 
 shared-slice-read-t11 : tie.Need-shared-slice-read-t11
 shared-slice-read-t11 c = search needs
@@ -56,11 +56,11 @@ read-pose-spec =
     tie.close
     (tie.spec
     mul-at
-    add-part
-    mul-part
-    sub-part
-    part-part-start
-    part-part-end
+    add-chunk
+    mul-chunk
+    sub-chunk
+    part-chunk-start
+    part-chunk-end
     shared-slice-read-t11
     shared-slice-read-t13
     shared-slice-read-t15

@@ -5,26 +5,26 @@ use borrow.Author.Needs.{needs}
 use Rattle.buffer.proofs.pose.write_floats.Statement.{statement}
 use Rattle.buffer.proofs.pose.write_floats.Tie as tie
 
-slice-write-part : tie.Need-slice-write-part
-slice-write-part c = search needs
+slice-write-chunk : tie.Need-slice-write-chunk
+slice-write-chunk c = search needs
 
-slice-write-part-2 : tie.Need-slice-write-part-2
-slice-write-part-2 c = search needs
+slice-write-chunk-2 : tie.Need-slice-write-chunk-2
+slice-write-chunk-2 c = search needs
 
-slice-write-part-3 : tie.Need-slice-write-part-3
-slice-write-part-3 c = search needs
+slice-write-chunk-3 : tie.Need-slice-write-chunk-3
+slice-write-chunk-3 c = search needs
 
-slice-write-part-4 : tie.Need-slice-write-part-4
-slice-write-part-4 c = search needs
+slice-write-chunk-4 : tie.Need-slice-write-chunk-4
+slice-write-chunk-4 c = search needs
 
-slice-write-part-5 : tie.Need-slice-write-part-5
-slice-write-part-5 c = simp length-set (omega arith)
+slice-write-chunk-5 : tie.Need-slice-write-chunk-5
+slice-write-chunk-5 c = simp length-set (omega arith)
 
-slice-write-part-6 : tie.Need-slice-write-part-6
-slice-write-part-6 c = simp length-set (omega arith)
+slice-write-chunk-6 : tie.Need-slice-write-chunk-6
+slice-write-chunk-6 c = simp length-set (omega arith)
 
-slice-write-part-7 : tie.Need-slice-write-part-7
-slice-write-part-7 c = simp length-set (omega arith)
+slice-write-chunk-7 : tie.Need-slice-write-chunk-7
+slice-write-chunk-7 c = simp length-set (omega arith)
 
 same-length : tie.Need-same-length
 same-length c = simp length-set
@@ -36,12 +36,12 @@ pub write-floats-spec : {M : Type 1} → statement M
 write-floats-spec =
     tie.close
     (tie.spec
-    slice-write-part
-    slice-write-part-2
-    slice-write-part-3
-    slice-write-part-4
-    slice-write-part-5
-    slice-write-part-6
-    slice-write-part-7
+    slice-write-chunk
+    slice-write-chunk-2
+    slice-write-chunk-3
+    slice-write-chunk-4
+    slice-write-chunk-5
+    slice-write-chunk-6
+    slice-write-chunk-7
     same-length
     returns)

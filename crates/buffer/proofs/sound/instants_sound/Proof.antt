@@ -7,7 +7,7 @@ use lib.ListN.{take}
 use borrow.Author.Needs.{needs}
 use borrow.Author.Tests.{not-true, not-false}
 use Rattle.buffer.specs.Answers.{ageOf}
-use Rattle.buffer.specs.Row.{ascending}
+use Rattle.buffer.specs.Map.{ascending}
 use Rattle.buffer.proofs.RowSoundLoops.{static-count, static-instant, not-rising, when-rising}
 use Rattle.buffer.proofs.sound.instants_sound.Statement.{statement}
 use Rattle.buffer.proofs.sound.instants_sound.Tie as tie

@@ -1,7 +1,7 @@
 use native.Mathlib.Omega.{arith}
 use borrow.Author.Needs.{needs}
 use mathlib.Core.Path.{sym}
-use Rattle.text.proofs.Glyphs.{digit-ten, digit-letter, digit-low, digit-between, digit-high}
+use Rattle.text.proofs.DigitCharacters.{digit-ten, digit-letter, digit-low, digit-between, digit-high}
 use Rattle.text.proofs.read.digit.Statement.{statement}
 use Rattle.text.proofs.read.digit.Tie as tie
 

@@ -40,11 +40,11 @@ loop-holds c =
 sub-i : tie.Need-sub-i Inv-loop μ-loop
 sub-i c = search needs
 
-rem-glyph : tie.Need-rem-glyph Inv-loop μ-loop
-rem-glyph c = search needs
+rem-digit-character : tie.Need-rem-digit-character Inv-loop μ-loop
+rem-digit-character c = search needs
 
-glyph-requires : tie.Need-glyph-requires Inv-loop μ-loop
-glyph-requires c κs =
+digit-character-requires : tie.Need-digit-character-requires Inv-loop μ-loop
+digit-character-requires c κs =
     let s = c .before .before .before .before .before in
     omega (arith, mod-lt (c .before .loop .rest) (s .pre .0))
 
@@ -68,7 +68,7 @@ loop-again c =
       p .loop .inv .1,
       omega arith,
       p .loop .inv .3 ∙ digits-back (a .base) (p .loop .i) (p .loop .rest) (p .loop .out) (a .at) (c .before .loop-test .taken)
-          ∙ ap (λ (g : ℕ). sets (set (p .loop .out) (a .at + (p .loop .i - 1)) g) (a .at) (digits (a .base) (p .loop .i - 1) (p .loop .rest / a .base))) (sym (c .glyph .ensures)),
+          ∙ ap (λ (g : ℕ). sets (set (p .loop .out) (a .at + (p .loop .i - 1)) g) (a .at) (digits (a .base) (p .loop .i - 1) (p .loop .rest / a .base))) (sym (c .digit-character .ensures)),
     )
 
 add-result : tie.Need-add-result Inv-loop μ-loop
@@ -94,8 +94,8 @@ write-digits-spec =
     returns
     loop-holds
     sub-i
-    rem-glyph
-    glyph-requires
+    rem-digit-character
+    digit-character-requires
     add-out
     slice-write-out
     div-rest

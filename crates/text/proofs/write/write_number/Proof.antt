@@ -2,8 +2,8 @@ use borrow.Author.Needs.{needs}
 use Rattle.text.proofs.write.write_number.Statement.{statement}
 use Rattle.text.proofs.write.write_number.Tie as tie
 
-places-requires : tie.Need-places-requires
-places-requires c κs = search needs
+digit-count-requires : tie.Need-digit-count-requires
+digit-count-requires c κs = search needs
 
 write-digits-requires : tie.Need-write-digits-requires
 write-digits-requires c κs = search needs
@@ -12,7 +12,7 @@ same-length : tie.Need-same-length
 same-length c = search needs
 
 returns : tie.Need-returns
-returns c = rw (← c .before .before .before .places .ensures) (c .before .before .write-digits .ensures)
+returns c = rw (← c .before .before .before .digit-count .ensures) (c .before .before .write-digits .ensures)
 
 pub write-number-spec : {M : Type 1} → statement M
-write-number-spec = tie.close (tie.spec places-requires write-digits-requires same-length returns)
+write-number-spec = tie.close (tie.spec digit-count-requires write-digits-requires same-length returns)

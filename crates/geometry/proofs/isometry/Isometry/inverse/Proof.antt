@@ -18,8 +18,8 @@ enum-known-q c = search needs
 conjugate-requires : tie.Need-conjugate-requires
 conjugate-requires c κs = search needs
 
-unrotated-requires : tie.Need-unrotated-requires
-unrotated-requires c κs = search needs
+inverse-with-rotation-requires : tie.Need-inverse-with-rotation-requires
+inverse-with-rotation-requires c κs = search needs
 
 returns : tie.Need-returns
 unfolding inverse
@@ -38,7 +38,7 @@ unfolding inverse
 returns-3 c =
     let at-q = c .before .before .before in
     let at = at-q .before .before in
-    rw (← at .normalize .ensures, at-q .q .given .1) (rw (← c .before .conjugate .ensures) (c .unrotated .ensures))
+    rw (← at .normalize .ensures, at-q .q .given .1) (rw (← c .before .conjugate .ensures) (c .inverse-with-rotation .ensures))
 
 pub inverse-spec : {M : Type 1} → statement M
 inverse-spec =
@@ -49,7 +49,7 @@ inverse-spec =
     enum-told-2
     enum-known-q
     conjugate-requires
-    unrotated-requires
+    inverse-with-rotation-requires
     returns
     returns-2
     returns-3)

@@ -10,7 +10,7 @@ use borrow.Author.Needs.{needs}
 use borrow.Author.Tests.{not-true, not-false}
 use Rattle.buffer.specs.Map.{all}
 use Rattle.buffer.specs.Row.{isZero}
-use Rattle.buffer.proofs.Parts.{take-rest}
+use Rattle.buffer.proofs.Chunks.{take-rest}
 use Rattle.registry.proofs.soundness.unused.unused_rows_zero.Statement.{statement}
 use Rattle.registry.proofs.soundness.unused.unused_rows_zero.Tie as tie
 

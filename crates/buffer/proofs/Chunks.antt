@@ -1,4 +1,4 @@
--- A test of a whole list as the loops make it: by parts, each part's elements joined into one flag.
+-- A test of a whole list as the loops make it: by chunks, each chunk's elements joined into one flag.
 use Prim.Native.Nat.{ℕ, _+_, _-_, _≤_, _<_}
 use mathlib.Core.Path.{_≡_, sym, ap, ap₂, _∙_}
 use mathlib.Core.Bool.{Bool, true, false, _&&_, and-assoc, and-true}
@@ -9,15 +9,15 @@ use lib.Seq.{drop-cons, drop-drop, take-all}
 use Rattle.buffer.specs.Map.{all}
 use Rattle.buffer.proofs.Alls.{all-append}
 
--- ---- part by part: what is left of the whole is a part and the rest, and b is the test of the part
+-- ---- chunk by chunk: what is left of the whole is a chunk and the rest, and b is the test of the chunk
 
-pub part-passes : {whole left part b : Bool} (rest : Bool) → whole ≡ left → left ≡ part && rest → b ≡ part → b ≡ true → whole ≡ rest
-part-passes rest inv split e h = inv ∙ split ∙ ap (λ p. p && rest) (sym e ∙ h)
+pub chunk-passes : {whole left chunk b : Bool} (rest : Bool) → whole ≡ left → left ≡ chunk && rest → b ≡ chunk → b ≡ true → whole ≡ rest
+chunk-passes rest inv split e h = inv ∙ split ∙ ap (λ p. p && rest) (sym e ∙ h)
 
-pub part-fails : {whole left part b : Bool} (rest : Bool) → whole ≡ left → left ≡ part && rest → b ≡ part → b ≡ false → false ≡ whole
-part-fails rest inv split e h = sym (inv ∙ split ∙ ap (λ p. p && rest) (sym e ∙ h))
+pub chunk-fails : {whole left chunk b : Bool} (rest : Bool) → whole ≡ left → left ≡ chunk && rest → b ≡ chunk → b ≡ false → false ≡ whole
+chunk-fails rest inv split e h = sym (inv ∙ split ∙ ap (λ p. p && rest) (sym e ∙ h))
 
--- the last part, of whatever length
+-- the last chunk, of whatever length
 pub take-rest : {A : Type 0} (i w : ℕ) (l : List A) → length l - i ≤ w → take w (drop i l) ≡ drop i l
 take-rest i w l h = take-all w (drop i l) (rw length-drop h)
 

@@ -1,4 +1,4 @@
--- `buffer::sound::zero_floats_part` meets its contract. The loop's invariant: the flag and the test of what is left are the test of the whole.
+-- `buffer::sound::zero_floats_chunk` meets its contract. The loop's invariant: the flag and the test of what is left are the test of the whole.
 use Prim.Native.Nat.{_-_}
 use mathlib.Core.Path.{_≡_, refl, sym, _∙_}
 use mathlib.Core.Bool.{_&&_}
@@ -8,9 +8,9 @@ use lib.ListN.{length, drop}
 use borrow.Author.Needs.{needs}
 use Rattle.buffer.specs.Map.{all}
 use Rattle.buffer.specs.Row.{isZero}
-use Rattle.buffer.proofs.Parts.{all-more, all-done}
-use Rattle.buffer.proofs.sound.zero_floats_part.Statement.{statement}
-use Rattle.buffer.proofs.sound.zero_floats_part.Tie as tie
+use Rattle.buffer.proofs.Chunks.{all-more, all-done}
+use Rattle.buffer.proofs.sound.zero_floats_chunk.Statement.{statement}
+use Rattle.buffer.proofs.sound.zero_floats_chunk.Tie as tie
 
 abbrev Inv-loop : tie.InvT-loop
 Inv-loop s zero₀ i₀ zero i = zero && all isZero (drop i s) ≡ all isZero s
@@ -47,8 +47,8 @@ returns c =
     let l = c .before .loop in
     sym (all-done isZero (l .zero) (l .i) (c .before .before .before .args .s .now) (omega arith)) ∙ l .inv
 
-pub zero-floats-part-spec : {M : Type 1} → statement M
-zero-floats-part-spec =
+pub zero-floats-chunk-spec : {M : Type 1} → statement M
+zero-floats-chunk-spec =
     tie.close
     (tie.spec
     Inv-loop

@@ -1,13 +1,13 @@
--- `buffer::sound::rising_part` meets its contract. The loop's invariant: the flag and the test from the last number passed on are the test of the whole.
+-- `buffer::sound::rising_chunk` meets its contract. The loop's invariant: the flag and the test from the last number passed on are the test of the whole.
 use Prim.Native.Nat.{_-_, _≤_}
 use mathlib.Core.Path.{_≡_, refl, sym, _∙_}
 use mathlib.Core.Bool.{_&&_}
 use native.Mathlib.Omega.{arith}
 use lib.ListN.{length, drop}
-use Rattle.buffer.specs.Row.{ascending}
+use Rattle.buffer.specs.Map.{ascending}
 use Rattle.buffer.proofs.Ascending.{rising-more, rising-done}
-use Rattle.buffer.proofs.sound.rising_part.Statement.{statement}
-use Rattle.buffer.proofs.sound.rising_part.Tie as tie
+use Rattle.buffer.proofs.sound.rising_chunk.Statement.{statement}
+use Rattle.buffer.proofs.sound.rising_chunk.Tie as tie
 
 abbrev Inv-loop : tie.InvT-loop
 Inv-loop s rising₀ i₀ rising i = (1 ≤ i) × (rising && ascending (drop (i - 1) s) ≡ ascending s)
@@ -50,8 +50,8 @@ returns c =
     let l = c .before .loop in
     sym (rising-done (l .rising) (l .i) (c .before .before .args .s .now) (omega arith)) ∙ l .inv .1
 
-pub rising-part-spec : {M : Type 1} → statement M
-rising-part-spec =
+pub rising-chunk-spec : {M : Type 1} → statement M
+rising-chunk-spec =
     tie.close
     (tie.spec
     Inv-loop

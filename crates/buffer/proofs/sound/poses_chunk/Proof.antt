@@ -1,4 +1,4 @@
--- `buffer::sound::poses_part` meets its contract. The loop's invariant: the flag and the test of what is left are the test of the whole.
+-- `buffer::sound::poses_chunk` meets its contract. The loop's invariant: the flag and the test of what is left are the test of the whole.
 use Prim.Native.Nat.{_-_, _≤_}
 use mathlib.Core.Path.{_≡_, refl, sym, ap, _∙_}
 use mathlib.Core.Bool.{_&&_}
@@ -6,8 +6,8 @@ use native.Mathlib.Omega.{arith}
 use borrow.Author.Needs.{needs}
 use Rattle.geometry.specs.Transform.{isValid}
 use Rattle.buffer.proofs.RowSoundLoops.{posesFrom, poses-more, poses-done}
-use Rattle.buffer.proofs.sound.poses_part.Statement.{statement}
-use Rattle.buffer.proofs.sound.poses_part.Tie as tie
+use Rattle.buffer.proofs.sound.poses_chunk.Statement.{statement}
+use Rattle.buffer.proofs.sound.poses_chunk.Tie as tie
 
 abbrev Inv-loop : tie.InvT-loop
 Inv-loop poses from to valid₀ i₀ valid i = (i ≤ to) × (valid && posesFrom poses to i ≡ posesFrom poses to from)
@@ -42,8 +42,8 @@ returns c =
     let a = c .before .before .before .args in
     sym (poses-done (a .poses .now) (a .to) (l .i) (l .valid) (omega arith)) ∙ l .inv .1
 
-pub poses-part-spec : {M : Type 1} → statement M
-poses-part-spec =
+pub poses-chunk-spec : {M : Type 1} → statement M
+poses-chunk-spec =
     tie.close
     (tie.spec
     Inv-loop

@@ -7,15 +7,15 @@ use Rattle.geometry.specs.declared.quaternion.Quaternion.{Quaternion}
 use Rattle.geometry.specs.declared.isometry.Isometry.{Isometry}
 use Rattle.geometry.specs.Vector3.{isFinite, scale}
 use Rattle.geometry.specs.Quaternion.{minusOne}
-use Rattle.geometry.specs.Isometry.{unrotated}
-use Rattle.geometry.proofs.isometry.Isometry.unrotated.Statement.{statement}
-use Rattle.geometry.proofs.isometry.Isometry.unrotated.Tie as tie
+use Rattle.geometry.specs.Isometry.{inverseWithRotation}
+use Rattle.geometry.proofs.isometry.Isometry.inverse_with_rotation.Statement.{statement}
+use Rattle.geometry.proofs.isometry.Isometry.inverse_with_rotation.Tie as tie
 
 moved : Quaternion → Vector3 → Reply Isometry
 moved q v = refuse (not (isFinite v)) 3 nothing (answer (record { translation = v; rotation = q }))
 
-by-translation : (c : tie.After-scale) → let a = c .before .before .args in moved (a .rotation) (c .scale .result) ≡ unrotated (a .self) (a .rotation)
-unfolding moved unrotated
+by-translation : (c : tie.After-scale) → let a = c .before .before .args in moved (a .rotation) (c .scale .result) ≡ inverseWithRotation (a .self) (a .rotation)
+unfolding moved inverseWithRotation
 by-translation c = ap (moved (c .before .before .args .rotation)) (c .scale .ensures ∙ ap (scale minusOne) (c .before .rotate-vector .ensures))
 
 rotate-vector-requires : tie.Need-rotate-vector-requires
@@ -35,6 +35,6 @@ returns-2 : tie.Need-returns-2
 unfolding moved
 returns-2 c = rw (← by-translation (c .before .before), ← c .before .is-finite .ensures) (simp (c .if1 .left))
 
-pub unrotated-spec : {M : Type 1} → statement M
-unrotated-spec =
+pub inverse-with-rotation-spec : {M : Type 1} → statement M
+inverse-with-rotation-spec =
     tie.close (tie.spec rotate-vector-requires scale-requires is-finite-requires returns returns-2)

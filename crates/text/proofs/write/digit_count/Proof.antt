@@ -2,13 +2,13 @@ use mathlib.Core.Path.{_≡_, refl}
 use Prim.Native.Nat.{ℕ, suc, _+_, _^_, _<_}
 use native.Mathlib.Omega.{arith}
 use borrow.Author.Needs.{needs}
-use Rattle.text.specs.Digits.{places}
-use Rattle.text.proofs.Places.{counted, places-last}
-use Rattle.text.proofs.write.places.Statement.{statement}
-use Rattle.text.proofs.write.places.Tie as tie
+use Rattle.text.specs.Digits.{digitCount}
+use Rattle.text.proofs.DigitCounts.{counted, digitCount-last}
+use Rattle.text.proofs.write.digit_count.Statement.{statement}
+use Rattle.text.proofs.write.digit_count.Tie as tie
 
 abbrev Inv-loop : tie.InvT-loop
-Inv-loop n k₀ rest₀ k rest = (f : ℕ) × (f + k ≡ 20) × (rest < 10 ^ suc f) × (places 19 n + 1 ≡ k + places f rest)
+Inv-loop n k₀ rest₀ k rest = (f : ℕ) × (f + k ≡ 20) × (rest < 10 ^ suc f) × (digitCount 19 n + 1 ≡ k + digitCount f rest)
 
 abbrev μ-loop : tie.MeasureT-loop
 μ-loop n k₀ rest₀ k rest = rest
@@ -29,7 +29,7 @@ loop-again c =
     (s .0, omega arith, s .2, omega arith)
 
 returns : tie.Need-returns Inv-loop μ-loop
-returns c = omega (arith, places-last (c .before .loop .inv .0) (c .before .loop .rest) (c .loop-test .left))
+returns c = omega (arith, digitCount-last (c .before .loop .inv .0) (c .before .loop .rest) (c .loop-test .left))
 
-pub places-spec : {M : Type 1} → statement M
-places-spec = tie.close (tie.spec Inv-loop μ-loop loop-holds add-k loop-less loop-again returns)
+pub digit-count-spec : {M : Type 1} → statement M
+digit-count-spec = tie.close (tie.spec Inv-loop μ-loop loop-holds add-k loop-less loop-again returns)

@@ -1,4 +1,4 @@
--- `buffer::sound::zero_words_part` meets its contract. The loop's invariant: the flag and the test of what is left are the test of the whole.
+-- `buffer::sound::zero_words_chunk` meets its contract. The loop's invariant: the flag and the test of what is left are the test of the whole.
 use Prim.Native.Nat.{_-_}
 use mathlib.Core.Path.{_≡_, refl, sym, _∙_}
 use mathlib.Core.Bool.{_&&_}
@@ -6,9 +6,9 @@ use native.Mathlib.Omega.{arith}
 use lib.Dec.{eqb}
 use lib.ListN.{length, drop}
 use Rattle.buffer.specs.Map.{all}
-use Rattle.buffer.proofs.Parts.{all-more, all-done}
-use Rattle.buffer.proofs.sound.zero_words_part.Statement.{statement}
-use Rattle.buffer.proofs.sound.zero_words_part.Tie as tie
+use Rattle.buffer.proofs.Chunks.{all-more, all-done}
+use Rattle.buffer.proofs.sound.zero_words_chunk.Statement.{statement}
+use Rattle.buffer.proofs.sound.zero_words_chunk.Tie as tie
 
 abbrev Inv-loop : tie.InvT-loop
 Inv-loop s zero₀ i₀ zero i = zero && all (eqb 0) (drop i s) ≡ all (eqb 0) s
@@ -42,8 +42,8 @@ returns c =
     let l = c .before .loop in
     sym (all-done (eqb 0) (l .zero) (l .i) (c .before .before .args .s .now) (omega arith)) ∙ l .inv
 
-pub zero-words-part-spec : {M : Type 1} → statement M
-zero-words-part-spec =
+pub zero-words-chunk-spec : {M : Type 1} → statement M
+zero-words-chunk-spec =
     tie.close
     (tie.spec
     Inv-loop
