@@ -1,14 +1,13 @@
 // The text of an answer, written into a lent buffer at a place, a text behind the other. The answer is the next place.
-use super::reply::Carried;
-use super::reply::Reply;
 use geometry::isometry::Isometry;
 use geometry::quaternion::Quaternion;
 use geometry::vector3::Vector3;
+use registry::answer::Carried;
 use registry::answer::Covered;
+use registry::answer::Reply;
 ghost use mathlib.Core.Path.{_≡_};
 ghost use mathlib.Core.List.{_∷_};
-ghost use Rattle.registry.specs.Answers.{rangeOf};
-ghost use Rattle.answers.specs.Meaning.{replied, carriedBy};
+ghost use Rattle.registry.specs.Answers.{rangeOf, carriedBy, replied};
 ghost use Rattle.answers.specs.Texts.{writtenAll, float, numberWord, floatWord, translationTexts, rotationTexts, poseTexts, hopTexts, carriedTexts, refusalTexts, instantTexts, replyTexts};
 
 // A space and a number.
@@ -83,11 +82,11 @@ fn write_carried(out: &mut [u8], at: usize, carried: Carried) -> usize
 }
 
 // A refusal by its number.
-fn write_refusal(out: &mut [u8], at: usize, number: u64, carried: Carried) -> usize
+fn write_refusal(out: &mut [u8], at: usize, number: u32, carried: Carried) -> usize
     ensures { λ r. ⌜ (r, now (out .exit)) ≡ writtenAll (now (out .entry)) at (refusalTexts number (carriedBy carried)) ⌝ }
 {
     let first = text::write_bytes(out, at, b"no");
-    let second = write_number_word(out, first, number);
+    let second = write_number_word(out, first, number as u64);
     write_carried(out, second, carried)
 }
 
@@ -106,6 +105,6 @@ pub fn write_reply(out: &mut [u8], at: usize, reply: Reply) -> usize
         Reply::Pose(p) => return write_pose(out, at, p),
         Reply::Static => return text::write_bytes(out, at, b"static"),
         Reply::At(t) => return write_instant(out, at, t),
-        Reply::No(number, carried) => return write_refusal(out, at, number, carried),
+        Reply::Refusal(number, carried) => return write_refusal(out, at, number, carried),
     }
 }

@@ -1,10 +1,10 @@
 // The line of a reading: what was asked, what is expected, what came out, and whether they agree.
-use answers::Reply;
 use geometry::isometry::Isometry;
 use geometry::transform;
 use libc::STDOUT_FILENO;
 use libm::float::to_bits;
 use registry::answer::Answer;
+use registry::answer::Reply;
 
 pub(crate) fn put(text: &[u8]) {
     io::write_all(STDOUT_FILENO, text);
@@ -79,10 +79,10 @@ fn reply(expected: &[u8], r: Reply) {
 
 // What a pose operation answers.
 pub(crate) fn of_pose(expected: &[u8], answer: transform::Answer) {
-    reply(expected, answers::of_pose(answer));
+    reply(expected, Reply::of_pose(answer));
 }
 
 // What a call on a store answers.
 pub(crate) fn of_tree(expected: &[u8], answer: Answer) {
-    reply(expected, answers::of_tree(answer));
+    reply(expected, Reply::of_tree(answer));
 }

@@ -20,9 +20,10 @@ use Rattle.buffer.proofs.Cases.{both, none-some, Tri, less, same, more, tri}
 use Rattle.buffer.proofs.Maps.{Rising, rising-is, get-put-same, get-put-other}
 use Rattle.buffer.proofs.Alls.{all-get}
 use Rattle.buffer.proofs.SampleLaws.{newest-top, newest-held, get-insert, insert-empty, insert-single}
-use Rattle.registry.specs.Tree.{Edge, Tree, Limits, Addition, kindOf, instantOf, grown, wiped, wipe}
+use Rattle.registry.specs.Tree.{Edge, Tree, Limits, Addition, kindOf, instantOf, updatedEdge, wiped, wipe}
 use Rattle.registry.specs.Laws.{SoundTree}
-use Rattle.registry.specs.AsMap.{SameMap, poseAt, viewOf, putIn, moving, drop, Newest, older, AddAsMap, WipeAsMap, WipeRefused}
+use Rattle.registry.specs.AsMap.{SameMap, poseAt, viewOf, putIn, moving, removePoses, Newest, older, AddAsMap, WipeAsMap, WipeRefused}
+use Rattle.registry.specs.Sound.{sound}
 use Rattle.registry.proofs.addition.Accepted.{Suits, add-accepted}
 use Rattle.registry.proofs.remove_before.Wiped.{wipe-accepted}
 use Rattle.registry.proofs.ViewFixes.{single-row, row-rises}
@@ -37,7 +38,7 @@ at-put look c d t f =
 -- ---- wipe
 
 pub wipeAsMap : WipeAsMap
-unfolding viewOf drop
+unfolding viewOf removePoses
 wipeAsMap t u f i e =
     let w = wipe-accepted t f i u e in
     let d = w .after in
@@ -67,17 +68,17 @@ pose-in : (i : ℕ) (held : Option Edge) → poseAt i held ≡ get (rowOf held) 
 pose-in i none = refl
 pose-in i (some e) = refl
 
-grown-row : (age : Option ℕ) (a : Addition) (held : Option Edge) → grown age a held .samples ≡ insert age (instantOf (a .stamp)) (a .pose) (rowOf held)
-grown-row age a none = refl
-grown-row age a (some e) = refl
+updated-row : (age : Option ℕ) (a : Addition) (held : Option Edge) → updatedEdge age a held .samples ≡ insert age (instantOf (a .stamp)) (a .pose) (rowOf held)
+updated-row age a none = refl
+updated-row age a (some e) = refl
 
-grown-parent : (age : Option ℕ) (a : Addition) (held : Option Edge) → Suits held a → grown age a held .parent ≡ a .parent
-grown-parent age a none s = refl
-grown-parent age a (some e) s = s .0
+updated-parent : (age : Option ℕ) (a : Addition) (held : Option Edge) → Suits held a → updatedEdge age a held .parent ≡ a .parent
+updated-parent age a none s = refl
+updated-parent age a (some e) s = s .0
 
-grown-kind : (age : Option ℕ) (a : Addition) (held : Option Edge) → Suits held a → grown age a held .kind ≡ kindOf (a .stamp)
-grown-kind age a none s = refl
-grown-kind age a (some e) s = s .1
+updated-kind : (age : Option ℕ) (a : Addition) (held : Option Edge) → Suits held a → updatedEdge age a held .kind ≡ kindOf (a .stamp)
+updated-kind age a none s = refl
+updated-kind age a (some e) s = s .1
 
 -- what survives is not older
 survives-older : (age : Option ℕ) (n i : ℕ) → survives age n i ≡ not (older age n i)
@@ -138,39 +139,39 @@ module _ (t : Tree) (a : Addition) (held : Option Edge) (q : get t (a .child) �
           omega arith)
 
   module _ (age : Option ℕ) (s : Suits held a) (j : Joins (a .stamp) (rowOf held)) where
-    abbrev grownEdge : Edge
-    grownEdge = grown age a held
+    abbrev newEdge : Edge
+    newEdge = updatedEdge age a held
 
-    added-view : SameMap (viewOf (put (a .child) grownEdge t)) (drop (a .child) (older age latest) (putIn a (viewOf t)))
-    unfolding putIn viewOf drop
+    added-view : SameMap (viewOf (put (a .child) newEdge t)) (removePoses (a .child) (older age latest) (putIn a (viewOf t)))
+    unfolding putIn viewOf removePoses
     added-view = record {
       parents = λ f.
-          at-put (Option·map (λ e. e .parent)) (a .child) grownEdge t f
-          ∙ both (eqb f (a .child)) (λ e. rw (e, grown-parent age a held s)) (λ e. rw e);
+          at-put (Option·map (λ e. e .parent)) (a .child) newEdge t f
+          ∙ both (eqb f (a .child)) (λ e. rw (e, updated-parent age a held s)) (λ e. rw e);
       kinds = λ f.
-          at-put (Option·map (λ e. e .kind)) (a .child) grownEdge t f
-          ∙ both (eqb f (a .child)) (λ e. rw (e, grown-kind age a held s)) (λ e. rw e);
+          at-put (Option·map (λ e. e .kind)) (a .child) newEdge t f
+          ∙ both (eqb f (a .child)) (λ e. rw (e, updated-kind age a held s)) (λ e. rw e);
       poses = λ f i.
-          at-put (poseAt i) (a .child) grownEdge t f
+          at-put (poseAt i) (a .child) newEdge t f
           ∙ both (eqb f (a .child))
           (λ e.
-          rw (e, eqb-true f (a .child) e, q, grown-row age a held, pose-in i held)
+          rw (e, eqb-true f (a .child) e, q, updated-row age a held, pose-in i held)
           (inserted age (a .stamp) (a .pose) (rowOf held) j i))
           (λ e. rw e);
     }
 
 module _ (L : Limits) (t : Tree) (sound : SoundTree L t) where
-  row-sound : (f : ℕ) (h : Edge) → get t f ≡ some h → instantsSound (L .age) (L .places) (h .kind) (h .samples) ≡ true
-  row-sound f h q = all-get (λ x. instantsSound (L .age) (L .places) (x .1 .kind) (x .1 .samples)) t (rising-is t .0 (sound .rises)) .0 (sound .instants) f h q
+  row-sound : (f : ℕ) (h : Edge) → get t f ≡ some h → instantsSound (L .age) (L .capacity) (h .kind) (h .samples) ≡ true
+  row-sound f h q = all-get (λ x. instantsSound (L .age) (L .capacity) (x .1 .kind) (x .1 .samples)) t (rising-is t .0 (sound .rises)) .0 (sound .instants) f h q
 
   row-rising : (f : ℕ) (held : Option Edge) → get t f ≡ held → Rising (rowOf held)
   row-rising f none q = tt
-  row-rising f (some h) q = rising-is (h .samples) .0 (row-rises (L .age) (L .places) (h .kind) (h .samples) (row-sound f h q))
+  row-rising f (some h) q = rising-is (h .samples) .0 (row-rises (L .age) (L .capacity) (h .kind) (h .samples) (row-sound f h q))
 
   row-joins : (f : ℕ) (s : Stamp) (held : Option Edge) → get t f ≡ held → ((h : Edge) → held ≡ some h → h .kind ≡ kindOf s) → Joins s (rowOf held)
   row-joins f (stamp.At i) held q k = tt
   row-joins f stamp.Static none q k = inl refl
-  row-joins f stamp.Static (some h) q k = inr (single-row (L .age) (L .places) (h .samples) (rw (k h refl) at (row-sound f h q)))
+  row-joins f stamp.Static (some h) q k = inr (single-row (L .age) (L .capacity) (h .samples) (rw (k h refl) at (row-sound f h q)))
 
 suits-kind : (a : Addition) (held : Option Edge) → Suits held a → (h : Edge) → held ≡ some h → h .kind ≡ kindOf (a .stamp)
 suits-kind a none s h e = absurd (none-some e)

@@ -19,14 +19,14 @@ use Rattle.buffer.specs.declared.kind.Kind.{Kind}
 use Rattle.buffer.specs.declared.kind.Kind.the-variants.{Static, Dynamic}
 use Rattle.buffer.specs.Map.{get, keep}
 use Rattle.buffer.specs.Samples.{Samples, range, last?, betweenSamples, servedAt, single, served}
-use Rattle.registry.specs.Tree.{Edge, Tree, Limits, Addition, isNew, ancestors, member, otherParent, thatParent, otherKind, kindOf, grown, add, wiped, wipe}
+use Rattle.registry.specs.Tree.{Edge, Tree, Limits, Addition, isAbsent, ancestors, member, otherParent, currentParent, otherKind, kindOf, updatedEdge, add, wiped, wipe}
 use Rattle.registry.specs.Store.{Store, limitsOf, treeOf, sizesFit, sized}
 use Rattle.registry.specs.Sound.{sound}
-use Rattle.registry.specs.Answers.{Value, pose, static}
+use Rattle.registry.specs.Answers.{Value, pose, static, carries}
 use Rattle.registry.specs.Path.{Hop, hops, lookupAlong, lookupApart, lookup, spans, meet, commonTime}
 use Rattle.registry.specs.PathLaws.{Every}
 use Rattle.registry.specs.Calls.{written, openOf, onTree, addOf, wipeOf, lookupOf, commonTimeOf}
-use Rattle.registry.specs.Replies.{carries, Form, ofDone, ofPose, ofTime, answers, fits, posed, RepliesFit}
+use Rattle.registry.specs.Replies.{Form, ofDone, ofPose, ofTime, answers, fits, posed, RepliesFit}
 use Rattle.registry.proofs.paths.Paths.{every-unit, every-map}
 use Rattle.registry.proofs.Fits.{Fits, answered, refused, Only, on-refuse, on-cond, on-then, inverse-only, ask-fits, Serves, lookup-known, common-time-known}
 
@@ -106,7 +106,7 @@ common-time-formed t f g =
 -- ---- addition and wipe
 
 -- 6 carries that parent
-parent-listed : (held : Option Edge) (p : ℕ) {next : Reply Tree} → Listed next → Listed (refuse (otherParent held p) 6 (thatParent held) next)
+parent-listed : (held : Option Edge) (p : ℕ) {next : Reply Tree} → Listed next → Listed (refuse (otherParent held p) 6 (currentParent held) next)
 parent-listed none p n = n
 parent-listed (some e) p n = on-refuse (not (eqb (e .parent) p)) 6 (frame (e .parent)) refl n
 
@@ -114,13 +114,13 @@ add-listed : (L : Limits) (t : Tree) (a : Addition) → Listed (add L t a)
 unfolding add
 add-listed L t a =
     let held = get t (a .child) in
-    on-refuse (isNew held && member (a .child) (ancestors t (a .parent))) 7 nothing refl
+    on-refuse (isAbsent held && member (a .child) (ancestors t (a .parent))) 7 nothing refl
     (on-then _ (validate-listed (a .pose)) (λ p.
     on-refuse (eqb (a .parent) (a .child)) 5 nothing refl
     (parent-listed held (a .parent)
     (on-refuse (otherKind held (kindOf (a .stamp))) 8 nothing refl
-    (on-refuse (isNew held && leb (L .rows) (length t)) 16 nothing refl
-    (on-refuse (ltb (L .places) (length (grown (L .age) a held .samples))) 17 nothing refl
+    (on-refuse (isAbsent held && leb (L .rows) (length t)) 16 nothing refl
+    (on-refuse (ltb (L .capacity) (length (updatedEdge (L .age) a held .samples))) 17 nothing refl
     (answered refl)))))))
 
 wiped-listed : (f i : ℕ) (t : Tree) (held : Option Edge) → Listed (wiped f i t held)
@@ -144,7 +144,7 @@ written-fits s L (refused h) = h
 pub repliesFit : RepliesFit
 unfolding openOf addOf wipeOf lookupOf commonTimeOf
 repliesFit = record {
-  opens = λ s L. written-fits s L (on-refuse (not (sizesFit (L .rows) (L .places) s)) 1 nothing refl (answered refl));
+  opens = λ s L. written-fits s L (on-refuse (not (sizesFit (L .rows) (L .capacity) s)) 1 nothing refl (answered refl));
   adds = λ s a. written-fits s (limitsOf s) (on-tree s (λ L t. add L t a) (add-listed (limitsOf s) (treeOf s) a));
   wipes = λ s f i. written-fits s (limitsOf s) (on-tree s (λ L t. wipe t f i) (wipe-listed (treeOf s) f i));
   lookups = λ s f g i. formed-is ofPose (on-tree s (λ L t. lookup t f g i) (lookup-formed (treeOf s) f g i));

@@ -25,20 +25,20 @@ use Rattle.registry.specs.AsMap.{SameMap, poseAt, viewOf, SoundRises, Vi
 -- ---- a sound tree's rows
 
 -- a static one holds one pose, at instant 0
-pub single-row : (age : Option ℕ) (places : ℕ) (m : Samples) → instantsSound age places Static m ≡ true → (p : Isometry) × (m ≡ (0, p) ∷ [])
-single-row age places [] h = absurd (false-true h)
-single-row age places (x ∷ []) h = (x .1, λ i. (eqb-true (x .0) 0 (and-left (eqb (x .0) 0) true h) i, x .1) ∷ [])
-single-row age places (x ∷ y ∷ m) h = let l = eqb-true (length (x ∷ y ∷ m)) 1 (and-left _ _ h) in absurd (omega arith)
+pub single-row : (age : Option ℕ) (capacity : ℕ) (m : Samples) → instantsSound age capacity Static m ≡ true → (p : Isometry) × (m ≡ (0, p) ∷ [])
+single-row age capacity [] h = absurd (false-true h)
+single-row age capacity (x ∷ []) h = (x .1, λ i. (eqb-true (x .0) 0 (and-left (eqb (x .0) 0) true h) i, x .1) ∷ [])
+single-row age capacity (x ∷ y ∷ m) h = let l = eqb-true (length (x ∷ y ∷ m)) 1 (and-left _ _ h) in absurd (omega arith)
 
-pub row-rises : (age : Option ℕ) (places : ℕ) (k : Kind) (m : Samples) → instantsSound age places k m ≡ true → rising m ≡ true
-row-rises age places Static m h = rw (single-row age places m h .1)
-row-rises age places Dynamic m h = and-right (leb (length m) places) (rising m) (and-left (leb (length m) places && rising m) _ h)
+pub row-rises : (age : Option ℕ) (capacity : ℕ) (k : Kind) (m : Samples) → instantsSound age capacity k m ≡ true → rising m ≡ true
+row-rises age capacity Static m h = rw (single-row age capacity m h .1)
+row-rises age capacity Dynamic m h = and-right (leb (length m) capacity) (rising m) (and-left (leb (length m) capacity && rising m) _ h)
 
 pub soundRises : SoundRises
 soundRises L t s = record {
   children = s .rises;
-  instants = all-weaken (λ x. instantsSound (L .age) (L .places) (x .1 .kind) (x .1 .samples)) (λ x. rising (x .1 .samples)) t
-      (λ x e. row-rises (L .age) (L .places) (x .1 .kind) (x .1 .samples) e) (s .instants);
+  instants = all-weaken (λ x. instantsSound (L .age) (L .capacity) (x .1 .kind) (x .1 .samples)) (λ x. rising (x .1 .samples)) t
+      (λ x e. row-rises (L .age) (L .capacity) (x .1 .kind) (x .1 .samples) e) (s .instants);
 }
 
 -- ---- one tree for a map

@@ -1,4 +1,3 @@
-pub mod Bits
 pub mod Demand3
 pub mod Histories
 pub mod Runs

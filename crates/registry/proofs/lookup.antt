@@ -1,5 +1,5 @@
 pub mod Composing
 pub mod Joining
 pub mod LookupLaws
-pub mod LookupTops
+pub mod LookupEnds
 pub mod NotServed

@@ -1,13 +1,14 @@
 pub mod Ancestors
-pub mod AskTops
+pub mod AskEnds
 pub mod CallsPathLaw
 pub mod Climbing
-pub mod MeetingFrame
+pub mod ClimbingBoth
+pub mod EdgesOfRows
 pub mod PathKept
 pub mod PathLaw
 pub mod Paths
 pub mod SameFrame
 pub mod SideHops
 pub mod SoundWalks
-pub mod Tops
+pub mod ClimbEnds
 pub mod TreeWalks

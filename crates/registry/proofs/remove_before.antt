@@ -1,2 +1,2 @@
-pub mod RowWiping
+pub mod WipeWritten
 pub mod Wiped

@@ -54,8 +54,8 @@ moving (some Static) = false
 moving (some Dynamic) = true
 
 -- a moving child's poses at these instants dropped
-unfoldable pub drop : ℕ → (ℕ → Bool) → FrameMap → FrameMap
-drop child these m = record {
+unfoldable pub removePoses : ℕ → (ℕ → Bool) → FrameMap → FrameMap
+removePoses child these m = record {
   parent = m .parent;
   kind = m .kind;
   pose = λ f i. cond (eqb f child && moving (m .kind f) && these i) none (m .pose f i);
@@ -76,11 +76,11 @@ older (some age) newest i = ltb (i + age) newest
 -- "An addition puts one in, then, where there is an age, drops a moving child's poses older than its newest less the age"
 abbrev pub AddAsMap : Type 0
 AddAsMap = (L : Limits) (t u : Tree) (a : Addition) → SoundTree L t → add L t a ≡ answer u
-    → (n : ℕ) × Newest (putIn a (viewOf t)) (a .child) n × SameMap (viewOf u) (drop (a .child) (older (L .age) n) (putIn a (viewOf t)))
+    → (n : ℕ) × Newest (putIn a (viewOf t)) (a .child) n × SameMap (viewOf u) (removePoses (a .child) (older (L .age) n) (putIn a (viewOf t)))
 
 -- "A wipe drops a moving child's poses before its instant"
 abbrev pub WipeAsMap : Type 0
-WipeAsMap = (t u : Tree) (f i : ℕ) → wipe t f i ≡ answer u → SameMap (viewOf u) (drop f (λ j. ltb j i) (viewOf t))
+WipeAsMap = (t u : Tree) (f i : ℕ) → wipe t f i ≡ answer u → SameMap (viewOf u) (removePoses f (λ j. ltb j i) (viewOf t))
 
 -- "wipe: not a child": 9 with the frame, exactly for a frame without a parent
 abbrev pub WipeRefused : Type 0

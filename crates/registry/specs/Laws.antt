@@ -9,7 +9,7 @@ use Rattle.time.specs.Reply.{Carried, answer, refusal}
 use Rattle.buffer.specs.Map.{all, rising}
 use Rattle.buffer.specs.Row.{instantsSound, posesSound, FloatsFit}
 use Rattle.registry.specs.Tree.{Tree, Limits, Addition, add, wipe}
-use Rattle.registry.specs.Store.{Store, encode, treeOf, limitsOf, usedIn, sized}
+use Rattle.registry.specs.Store.{Store, stored, treeOf, limitsOf, usedIn, sized}
 use Rattle.registry.specs.Sound.{framesFit, parentsDiffer, noCircle, NotAboveItself, sound}
 use Rattle.registry.specs.declared.answer.Answer.{Answer}
 use Rattle.registry.specs.Answers.{done, replyOf}
@@ -22,11 +22,11 @@ NoCircle = (t : Tree) → rising t ≡ true → (noCircle t ≡ true) ↔ NotAbo
 -- ---- words and trees
 
 -- "E is 1 to 256, S is 1 to 1,024"
-pub record InRange (rows places : ℕ) : Type 0 where
+pub record InRange (rows capacity : ℕ) : Type 0 where
   pub someRows : 1 ≤ rows
   pub fewRows : rows ≤ 256
-  pub somePlaces : 1 ≤ places
-  pub fewPlaces : places ≤ 1024
+  pub positiveCapacity : 1 ≤ capacity
+  pub boundedCapacity : capacity ≤ 1024
 
 -- what "sound means" asks of a tree
 pub record SoundTree (L : Limits) (t : Tree) : Type 0 where
@@ -35,21 +35,25 @@ pub record SoundTree (L : Limits) (t : Tree) : Type 0 where
   pub frames : framesFit t ≡ true
   pub parents : parentsDiffer t ≡ true
   pub circles : noCircle t ≡ true
-  pub instants : all (λ x. instantsSound (L .age) (L .places) (x .1 .kind) (x .1 .samples)) t ≡ true
+  pub instants : all (λ x. instantsSound (L .age) (L .capacity) (x .1 .kind) (x .1 .samples)) t ≡ true
   pub poses : all (λ x. posesSound (x .1 .samples)) t ≡ true
 
 -- a sound store is the words of the tree that it holds, and that tree is sound
-abbrev pub SoundIsEncoded : Type 0
-SoundIsEncoded = (s : Store) → FloatsFit (s .poses) → sized s ≡ true → sound s ≡ true
-    → (s ≡ encode (limitsOf s) (treeOf s)) × SoundTree (limitsOf s) (treeOf s)
+abbrev pub SoundIsStored : Type 0
+SoundIsStored = (s : Store) → FloatsFit (s .poses) → sized s ≡ true → sound s ≡ true
+    → (s ≡ stored (limitsOf s) (treeOf s)) × SoundTree (limitsOf s) (treeOf s)
+
+-- the limits and a sound tree are read back from its words
+abbrev pub StoredReadsBack : Type 0
+StoredReadsBack = (L : Limits) (t : Tree) → 1 ≤ L .capacity → SoundTree L t → (limitsOf (stored L t) ≡ L) × (treeOf (stored L t) ≡ t)
 
 -- the words of a sound tree are a sound store
-abbrev pub EncodedIsSound : Type 0
-EncodedIsSound = (L : Limits) (t : Tree) → InRange (L .rows) (L .places) → SoundTree L t → (sized (encode L t) ≡ true) × (sound (encode L t) ≡ true)
+abbrev pub StoredIsSound : Type 0
+StoredIsSound = (L : Limits) (t : Tree) → InRange (L .rows) (L .capacity) → SoundTree L t → (sized (stored L t) ≡ true) × (sound (stored L t) ≡ true)
 
 -- two sound trees with the same words are one
-abbrev pub EncodeInjective : Type 0
-EncodeInjective = (L : Limits) (t u : Tree) → 1 ≤ L .places → SoundTree L t → SoundTree L u → encode L t ≡ encode L u → t ≡ u
+abbrev pub StoredInjective : Type 0
+StoredInjective = (L : Limits) (t u : Tree) → 1 ≤ L .capacity → SoundTree L t → SoundTree L u → stored L t ≡ stored L u → t ≡ u
 
 -- ---- what calls leave
 

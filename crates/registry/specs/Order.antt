@@ -15,7 +15,7 @@ use Rattle.buffer.specs.declared.coverage.Coverage.{Coverage}
 use Rattle.buffer.specs.declared.coverage.Coverage.the-variants.{AllTime, Range, Empty}
 use Rattle.buffer.specs.Map.{all, get}
 use Rattle.buffer.specs.Samples.{range}
-use Rattle.registry.specs.Tree.{Tree, Limits, Addition, isNew, ancestors, member, kindOf, otherParent, thatParent, otherKind, grown}
+use Rattle.registry.specs.Tree.{Tree, Limits, Addition, isAbsent, ancestors, member, kindOf, otherParent, currentParent, otherKind, updatedEdge}
 use Rattle.registry.specs.Store.{Store, treeOf, limitsOf, sizesFit, sized}
 use Rattle.registry.specs.Sound.{sound}
 use Rattle.registry.specs.Path.{Hop, side, connected, hops, known, fold}
@@ -28,7 +28,7 @@ abbrev pub openOrder : List ℕ
 openOrder = 1 ∷ []
 
 unfoldable pub openDue : Store → Limits → Dues
-openDue s L = (1, when (not (sizesFit (L .rows) (L .places) s)) nothing) ∷ []
+openDue s L = (1, when (not (sizesFit (L .rows) (L .capacity) s)) nothing) ∷ []
 
 abbrev pub OpenFirstDue : Type 0
 OpenFirstDue = (s : Store) (L : Limits) → refused (openOf s L .reply) ≡ firstDue (openDue s L) openOrder
@@ -50,11 +50,11 @@ unfoldable pub addDue : Limits → Tree → Addition → Dues
 addDue L t a =
     let held = get t (a .child) in
     (5, when (eqb (a .parent) (a .child)) nothing)
-    ∷ (6, when (otherParent held (a .parent)) (thatParent held))
-    ∷ (7, when (isNew held && member (a .child) (ancestors t (a .parent))) nothing)
+    ∷ (6, when (otherParent held (a .parent)) (currentParent held))
+    ∷ (7, when (isAbsent held && member (a .child) (ancestors t (a .parent))) nothing)
     ∷ (8, when (otherKind held (kindOf (a .stamp))) nothing)
-    ∷ (16, when (isNew held && eqb (length t) (L .rows)) nothing)
-    ∷ (17, when (ltb (L .places) (length (grown (L .age) a held .samples))) nothing)
+    ∷ (16, when (isAbsent held && eqb (length t) (L .rows)) nothing)
+    ∷ (17, when (ltb (L .capacity) (length (updatedEdge (L .age) a held .samples))) nothing)
     ∷ poseDue (a .pose)
 
 abbrev pub AddFirstDue : Type 0
@@ -158,7 +158,7 @@ wipeOrder = 9 ∷ []
 
 -- 9: "wipe: not a child; the frame"
 unfoldable pub wipeDue : Tree → ℕ → Dues
-wipeDue t f = (9, when (isNew (get t f)) (frame f)) ∷ []
+wipeDue t f = (9, when (isAbsent (get t f)) (frame f)) ∷ []
 
 abbrev pub WipeFirstDue : Type 0
 WipeFirstDue = (s : Store) (f i : ℕ) → refused (wipeOf s f i .reply) ≡ firstDue (lentDue s (wipeDue (treeOf s) f)) (lent wipeOrder)

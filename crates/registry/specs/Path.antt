@@ -11,7 +11,7 @@ use Rattle.buffer.specs.Map.{get}
 use Rattle.buffer.specs.declared.coverage.Coverage.{Coverage}
 use Rattle.buffer.specs.declared.coverage.Coverage.the-variants.{AllTime, Range, Empty}
 use Rattle.buffer.specs.Samples.{coverage, served}
-use Rattle.registry.specs.Tree.{Edge, Tree, isNew, ancestors, member}
+use Rattle.registry.specs.Tree.{Edge, Tree, isAbsent, ancestors, member}
 use Rattle.registry.specs.Answers.{Value, pose, static, at}
 
 -- ---- paths
@@ -57,7 +57,7 @@ isParent f (x ∷ t) = eqb (x .1 .parent) f || isParent f t
 
 -- a child or a parent
 abbrev pub known : Tree → ℕ → Bool
-known t f = not (isNew (get t f)) || isParent f t
+known t f = not (isAbsent (get t f)) || isParent f t
 
 -- One answer for a frame and itself, even when unknown; else 9, the target first; else what the two sides of the path give, or, without a path, what
 -- the two climbs to the roots give.

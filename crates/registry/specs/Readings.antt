@@ -38,7 +38,7 @@ abbrev pub above : ℕ → Float
 above k = round binary64 false (2 ^ 52 + k) (2 ^ 52)
 
 abbrev pub limits : Option ℕ → Limits
-limits age = record { rows = 2; places = 2; age = age }
+limits age = record { rows = 2; capacity = 2; age = age }
 
 -- lent words for two rows of two samples, opened
 abbrev pub opened : Option ℕ → Store

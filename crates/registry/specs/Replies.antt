@@ -1,24 +1,15 @@
--- What each call can reply: its answers, and what each number of the table of noes carries. Proved in proofs/Replies.antt.
+-- What each call can reply: its answers, and refusals that carry what their numbers list. Proved in proofs/Replies.antt.
 use Prim.Native.Nat.{ℕ}
 use mathlib.Core.Path.{_≡_}
 use mathlib.Core.Bool.{Bool, true, false}
-use mathlib.Core.List.{[], _∷_}
-use lib.Dec.{eqb}
-use Rattle.time.specs.Reply.{Carried, nothing, norm, frame, hop, Reply, answer, refusal, _then_}
+use Rattle.time.specs.Reply.{Reply, answer, refusal, _then_}
 use Rattle.geometry.specs.declared.isometry.Isometry.{Isometry}
 use Rattle.geometry.specs.Isometry.{inverse, interpolate}
 use Rattle.geometry.specs.Transform.{validate}
-use Rattle.registry.specs.Tree.{Limits, Addition, member}
+use Rattle.registry.specs.Tree.{Limits, Addition}
 use Rattle.registry.specs.Store.{Store}
-use Rattle.registry.specs.Answers.{Value, done, pose, static, at}
+use Rattle.registry.specs.Answers.{Value, done, pose, static, at, carries}
 use Rattle.registry.specs.Calls.{openOf, addOf, wipeOf, lookupOf, commonTimeOf}
-
--- "A refusal carries the listed data": 4 the norm; 6 that parent and 9 the frame; 11 and 12 a hop's child and range, if any; the others nothing
-abbrev pub carries : ℕ → Carried → Bool
-carries k nothing = member k (1 ∷ 2 ∷ 3 ∷ 5 ∷ 7 ∷ 8 ∷ 10 ∷ 13 ∷ 14 ∷ 15 ∷ 16 ∷ 17 ∷ [])
-carries k (norm n) = eqb k 4
-carries k (frame f) = member k (6 ∷ 9 ∷ [])
-carries k (hop f range) = member k (11 ∷ 12 ∷ [])
 
 -- what calls are answered with: done; a pose; Static or an instant
 pub data Form : Type 0 where

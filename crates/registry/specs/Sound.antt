@@ -1,14 +1,14 @@
 -- "Sound means": one clause for each part of document 01's sentence.
-use Prim.Native.Nat.{ℕ, zero, suc, _+_, _*_, _^_}
+use Prim.Native.Nat.{ℕ, zero, suc, _^_}
 use mathlib.Core.Path.{_≡_}
 use mathlib.Core.Bool.{Bool, true, false, not, _&&_, _||_}
 use mathlib.Core.Option.{Option, none, some}
 use lib.Dec.{eqb, ltb, leb}
-use lib.ListN.{length, getD, drop}
+use lib.ListN.{length}
 use Rattle.buffer.specs.Map.{all, get, rising}
 use Rattle.buffer.specs.Row.{isZero, rowSound}
-use Rattle.registry.specs.Tree.{Edge, Tree, isNew, above, member}
-use Rattle.registry.specs.Store.{Store, rowsIn, placesIn, usedIn, ageIn, kindOfWord, rowWord, rowInstants, rowPoses, treeOf}
+use Rattle.registry.specs.Tree.{Edge, Tree, isAbsent, above, member}
+use Rattle.registry.specs.Store.{Store, rowsIn, usedIn, flagIn, ageWordIn, ageIn, kindIn, kindOfWord, countIn, rowInstants, rowPoses, unusedHead, unusedInstants, unusedPoses, treeOf, sized}
 
 -- every row number below n passes the test
 abbrev pub every : ℕ → (ℕ → Bool) → Bool
@@ -34,25 +34,28 @@ climb (suc n) t f = stepUp (get t f) f (λ p. climb n t p)
 
 -- "no circle": from every child, as many steps as there are rows lead to a frame that is no child
 unfoldable pub noCircle : Tree → Bool
-noCircle t = all (λ x. isNew (get t (climb (length t) t (x .0)))) t
+noCircle t = all (λ x. isAbsent (get t (climb (length t) t (x .0)))) t
 
 -- "flag and kind have a named value, and age is 0 without the flag"
 abbrev pub namedValues : Store → Bool
 namedValues s =
-    leb (getD (s .head) 3 0) 1
-    && (eqb (getD (s .head) 3 0) 1 || eqb (getD (s .head) 4 0) 0)
-    && every (usedIn s) (λ r. leb (rowWord s r 2) 1)
+    leb (flagIn s) 1
+    && (eqb (flagIn s) 1 || eqb (ageWordIn s) 0)
+    && every (usedIn s) (λ r. leb (kindIn s r) 1)
 
--- the rules of each used row: instants, poses and its unused places
+-- the rules of row r: its instants, its poses and what it does not use of its capacity
+abbrev pub rowRules : Store → ℕ → Bool
+rowRules s r = rowSound (ageIn s) (kindOfWord (kindIn s r)) (countIn s r) (rowInstants s r) (rowPoses s r)
+
 abbrev pub rowsSound : Store → Bool
-rowsSound s = every (usedIn s) (λ r. rowSound (ageIn s) (kindOfWord (rowWord s r 2)) (rowWord s r 3) (rowInstants s r) (rowPoses s r))
+rowsSound s = every (usedIn s) (rowRules s)
 
 -- "every unused word is 0, positive zero for floats": the unused rows
 abbrev pub unusedRowsZero : Store → Bool
 unusedRowsZero s =
-    all (eqb 0) (drop (5 + 4 * usedIn s) (s .head))
-    && all (eqb 0) (drop (usedIn s * placesIn s) (s .instants))
-    && all isZero (drop (7 * (usedIn s * placesIn s)) (s .poses))
+    all (eqb 0) (unusedHead s)
+    && all (eqb 0) (unusedInstants s)
+    && all isZero (unusedPoses s)
 
 unfoldable pub sound : Store → Bool
 sound s =
@@ -64,6 +67,11 @@ sound s =
     && namedValues s
     && rowsSound s
     && unusedRowsZero s
+
+-- a store that has passed the tests of 1 and 2: its sizes fit and the rules hold
+pub record SoundStore (s : Store) : Type 0 where
+  pub sizes : sized s ≡ true
+  pub rules : sound s ≡ true
 
 -- ---- what no circle means, proved of `noCircle` in proofs/
 

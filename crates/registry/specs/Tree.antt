@@ -28,7 +28,7 @@ Tree = Map Edge
 -- E rows, S samples a row, and the age, if there is one
 pub record Limits : Type 0 where
   pub rows : ℕ
-  pub places : ℕ
+  pub capacity : ℕ
   pub age : Option ℕ
 
 pub record Addition : Type 0 where
@@ -37,6 +37,7 @@ pub record Addition : Type 0 where
   pub stamp : Stamp
   pub pose : Isometry
 
+-- the addition with these operands
 abbrev pub addition : ℕ → ℕ → Stamp → Isometry → Addition
 addition child parent stamp pose = record { child = child; parent = parent; stamp = stamp; pose = pose }
 
@@ -50,9 +51,9 @@ instantOf (stamp.At i) = i
 
 -- ---- climbing
 
-abbrev pub isNew : Option Edge → Bool
-isNew none = true
-isNew (some e) = false
+abbrev pub isAbsent : Option Edge → Bool
+isAbsent none = true
+isAbsent (some e) = false
 
 abbrev pub rise : Option Edge → (ℕ → List ℕ) → List ℕ
 rise none next = []
@@ -85,9 +86,9 @@ otherParent none p = false
 otherParent (some e) p = not (eqb (e .parent) p)
 
 -- "that parent"
-abbrev pub thatParent : Option Edge → Carried
-thatParent none = nothing
-thatParent (some e) = frame (e .parent)
+abbrev pub currentParent : Option Edge → Carried
+currentParent none = nothing
+currentParent (some e) = frame (e .parent)
 
 -- "static for moving, or the reverse"
 abbrev pub otherKind : Option Edge → Kind → Bool
@@ -95,13 +96,13 @@ otherKind none k = false
 otherKind (some e) k = not (sameKind (e .kind) k)
 
 -- the child's edge with the pose put in and then what is too old dropped
-abbrev pub grown : Option ℕ → Addition → Option Edge → Edge
-grown age a none = record {
+abbrev pub updatedEdge : Option ℕ → Addition → Option Edge → Edge
+updatedEdge age a none = record {
   parent = a .parent;
   kind = kindOf (a .stamp);
   samples = insert age (instantOf (a .stamp)) (a .pose) [];
 }
-grown age a (some e) = record {
+updatedEdge age a (some e) = record {
   parent = e .parent;
   kind = e .kind;
   samples = insert age (instantOf (a .stamp)) (a .pose) (e .samples);
@@ -110,14 +111,14 @@ grown age a (some e) = record {
 -- the refusals in document 01's order: 7, 3, 4, 5, 6, 8, 16, 17
 abbrev pub addTo : Limits → Tree → Addition → Option Edge → Reply Tree
 addTo L t a held =
-    refuse (isNew held && member (a .child) (ancestors t (a .parent))) 7 nothing
+    refuse (isAbsent held && member (a .child) (ancestors t (a .parent))) 7 nothing
     (validate (a .pose) then λ p.
     refuse (eqb (a .parent) (a .child)) 5 nothing
-    (refuse (otherParent held (a .parent)) 6 (thatParent held)
+    (refuse (otherParent held (a .parent)) 6 (currentParent held)
     (refuse (otherKind held (kindOf (a .stamp))) 8 nothing
-    (refuse (isNew held && leb (L .rows) (length t)) 16 nothing
-    (refuse (ltb (L .places) (length (grown (L .age) a held .samples))) 17 nothing
-    (answer (put (a .child) (grown (L .age) a held) t)))))))
+    (refuse (isAbsent held && leb (L .rows) (length t)) 16 nothing
+    (refuse (ltb (L .capacity) (length (updatedEdge (L .age) a held .samples))) 17 nothing
+    (answer (put (a .child) (updatedEdge (L .age) a held) t)))))))
 
 -- the tree after an addition, or why it is refused
 unfoldable pub add : Limits → Tree → Addition → Reply Tree

@@ -1,2 +1,1 @@
-pub mod NewRow
 pub mod Adding

@@ -1,11 +1,8 @@
 // Addition.
-use crate::addition::put;
 use crate::answer::Answer;
-use crate::layout::find;
-use crate::layout::find::Found;
-use crate::layout::head;
-use crate::soundness::check;
-use crate::soundness::check::Checked;
+use crate::check;
+use crate::check::Checked;
+use crate::checked;
 use geometry::isometry::Isometry;
 use time::stamp::Stamp;
 ghost use mathlib.Core.Path.{_≡_};
@@ -25,16 +22,11 @@ pub fn add_transform(
     ensures { λ a. ⌜ outcome (replyOf a) (now (head .exit)) (now (instants .exit)) (now (poses .exit))
         ≡ addOf (storeOf (now (head .entry)) (now (instants .entry)) (now (poses .entry))) (record { child = child; parent = parent; stamp = stamp; pose = pose }) ⌝ }
 {
-    let checked = check::check(head, instants, poses);
-    if let Checked::Sizes = checked {
-        return Answer::Sizes;
-    }
-    if let Checked::UnsoundStore = checked {
-        return Answer::UnsoundStore;
-    }
-    let used = head[head::USED] as usize;
-    match find::find_row(head, used, child as u64) {
-        Found::At(r) => put::add_held(head, instants, poses, r, child, parent, stamp, pose),
-        Found::Absent(k) => put::add_new(head, instants, poses, k, child, parent, stamp, pose),
+    match check::check(head, instants, poses) {
+        Checked::Sizes => Answer::Sizes,
+        Checked::UnsoundStore => Answer::UnsoundStore,
+        Checked::Sound => {
+            checked::add_transform(head, instants, poses, child, parent, stamp, pose)
+        }
     }
 }

@@ -1,8 +1,8 @@
 // Lookup.
 use crate::answer::Answer;
-use crate::lookup::resolve;
-use crate::soundness::check;
-use crate::soundness::check::Checked;
+use crate::check;
+use crate::check::Checked;
+use crate::checked;
 ghost use mathlib.Core.Path.{_≡_};
 ghost use Rattle.registry.specs.Answers.{replyOf};
 ghost use Rattle.registry.specs.Calls.{storeOf, lookupOf};
@@ -21,6 +21,6 @@ pub fn get_transform(
     match check::check(head, instants, poses) {
         Checked::Sizes => Answer::Sizes,
         Checked::UnsoundStore => Answer::UnsoundStore,
-        Checked::Sound => resolve::resolve(head, instants, poses, target, source, t),
+        Checked::Sound => checked::get_transform(head, instants, poses, target, source, t),
     }
 }

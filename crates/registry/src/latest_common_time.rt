@@ -1,8 +1,8 @@
 // Latest common time.
 use crate::answer::Answer;
-use crate::common_time::common;
-use crate::soundness::check;
-use crate::soundness::check::Checked;
+use crate::check;
+use crate::check::Checked;
+use crate::checked;
 ghost use mathlib.Core.Path.{_≡_};
 ghost use Rattle.registry.specs.Answers.{replyOf};
 ghost use Rattle.registry.specs.Calls.{storeOf, commonTimeOf};
@@ -20,6 +20,6 @@ pub fn latest_common_time(
     match check::check(head, instants, poses) {
         Checked::Sizes => Answer::Sizes,
         Checked::UnsoundStore => Answer::UnsoundStore,
-        Checked::Sound => common::common_time(head, instants, target, source),
+        Checked::Sound => checked::latest_common_time(head, instants, poses, target, source),
     }
 }

@@ -1,9 +1,8 @@
 // Opening a store.
-use super::answer::Answer;
-use crate::layout::head;
+use crate::answer::Answer;
+use crate::checked;
 use crate::soundness::sizes;
 use buffer::max_age::MaxAge;
-use buffer::words;
 ghost use mathlib.Core.Path.{_≡_};
 ghost use Rattle.buffer.specs.Answers.{ageOf};
 ghost use Rattle.registry.specs.Answers.{replyOf};
@@ -19,20 +18,10 @@ pub fn open(
     max_age: MaxAge,
 ) -> Answer
     ensures { λ r. ⌜ outcome (replyOf r) (now (head .exit)) (now (instants .exit)) (now (poses .exit))
-        ≡ openOf (storeOf (now (head .entry)) (now (instants .entry)) (now (poses .entry))) (record { rows = rows; places = samples; age = ageOf «max_age» }) ⌝ }
+        ≡ openOf (storeOf (now (head .entry)) (now (instants .entry)) (now (poses .entry))) (record { rows = rows; capacity = samples; age = ageOf «max_age» }) ⌝ }
 {
     if !sizes::sizes_fit(head, instants, poses, rows, samples) {
         return Answer::Sizes;
     }
-    words::clear_words(head);
-    words::clear_words(instants);
-    words::clear_floats(poses);
-    head[head::ROWS] = rows;
-    head[head::PLACES] = samples;
-    let MaxAge::Nanos(age) = max_age else {
-        return Answer::Done;
-    };
-    head[head::AGE_FLAG] = 1;
-    head[head::AGE] = age;
-    Answer::Done
+    checked::open(head, instants, poses, rows, samples, max_age)
 }

@@ -1,4 +1,5 @@
-// The path of two frames: whether they are in the tree, where the climbs from them end, and one row at an instant.
+// The path of two frames: which edge has a frame, whether frames are in the tree, and where the climbs
+// from two of them end.
+pub(crate) mod climbs;
+pub(crate) mod edges;
 pub(crate) mod frames;
-pub(crate) mod meeting;
-pub(crate) mod row;

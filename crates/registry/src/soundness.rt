@@ -1,6 +1,6 @@
 // Refusals 1 and 2: the sizes of a store and the rules of its words.
-pub(crate) mod check;
-mod head_sound;
+pub(crate) mod head_sound;
 mod no_circle;
+pub(crate) mod rows_sound;
 pub(crate) mod sizes;
-mod unused;
+pub(crate) mod unused;

@@ -6,6 +6,7 @@ use super::output;
 use super::store;
 use buffer::max_age::MaxAge;
 use registry::answer::Answer;
+use registry::layout;
 use text::Number;
 ghost use Prim.Native.Nat.{_≤_};
 
@@ -32,33 +33,26 @@ pub(crate) fn start() -> Reply {
     Reply { at: 0, lent }
 }
 
-// How many samples so many rows have.
-fn samples(rows: u64, places: u64) -> u64
-    requires { ⌜ (rows ≤ 256) × (places ≤ 1024) ⌝ }
-    ensures { λ r. ⌜ r ≤ 262144 ⌝ }
-{
-    rows * places
-}
-
 // What a store of these sizes is lent, where the sizes are within their limits, else what was lent before.
-fn lent_for(rows: u64, places: u64, before: Lent) -> Lent {
+fn lent_for(rows: u64, capacity: u64, before: Lent) -> Lent {
     if rows < 1 {
         return before;
     }
     if 256 < rows {
         return before;
     }
-    if places < 1 {
+    if capacity < 1 {
         return before;
     }
-    if 1024 < places {
+    if 1024 < capacity {
         return before;
     }
-    let n = samples(rows, places);
+    let rows = rows as usize;
+    let capacity = capacity as usize;
     Lent {
-        head: (5 + 4 * rows) as usize,
-        instants: n as usize,
-        poses: (7 * n) as usize,
+        head: layout::head_length(rows),
+        instants: layout::instants_length(rows, capacity),
+        poses: layout::poses_length(rows, capacity),
     }
 }
 
@@ -82,7 +76,7 @@ fn refused(out: &mut [u8], to: usize, lent: Lent) -> Reply {
 // A store to open: its sizes, its age and the part that they ask for.
 struct Store {
     rows: u64,
-    places: u64,
+    capacity: u64,
     age: MaxAge,
     lent: Lent,
 }
@@ -97,19 +91,19 @@ fn read_store(line: &[u8], at: usize, before: Lent, most: Lent) -> Opening {
     let Number::Value(rows, second) = text::read_number(line, at) else {
         return Opening::Malformed;
     };
-    let Number::Value(places, third) = text::read_number(line, second) else {
+    let Number::Value(capacity, third) = text::read_number(line, second) else {
         return Opening::Malformed;
     };
     let Age::Value(age) = operands::last_age(line, third) else {
         return Opening::Malformed;
     };
-    let lent = lent_for(rows, places, before);
+    let lent = lent_for(rows, capacity, before);
     if beyond(lent, most) {
         return Opening::Malformed;
     }
     Opening::Value(Store {
         rows,
-        places,
+        capacity,
         age,
         lent,
     })
@@ -127,7 +121,7 @@ fn open_in(head: &mut [u64], instants: &mut [u64], poses: &mut [f64], store: Sto
         &mut instants[0..i],
         &mut poses[0..p],
         store.rows,
-        store.places,
+        store.capacity,
         age,
     )
 }

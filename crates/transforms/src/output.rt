@@ -1,6 +1,7 @@
 // The buffer of answers, and the answers that are single words. The next place is answered.
 use geometry::transform;
 use registry::answer::Answer;
+use registry::answer::Reply;
 
 // More bytes than any answer has, and than any word of `words`.
 const SPARE: usize = 512;
@@ -45,10 +46,10 @@ pub(crate) fn line_end(out: &mut [u8], at: usize) -> usize {
 
 // What a pose operation answers.
 pub(crate) fn of_pose(out: &mut [u8], at: usize, answer: transform::Answer) -> usize {
-    answers::write_reply(out, at, answers::of_pose(answer))
+    answers::write_reply(out, at, Reply::of_pose(answer))
 }
 
 // What a call on the store answers.
 pub(crate) fn of_tree(out: &mut [u8], at: usize, answer: Answer) -> usize {
-    answers::write_reply(out, at, answers::of_tree(answer))
+    answers::write_reply(out, at, Reply::of_tree(answer))
 }

@@ -9,16 +9,16 @@ use Rattle.registry.specs.Store.{Store, sizesFit}
 use Rattle.registry.specs.Answers.{Value}
 use Rattle.registry.specs.Replies.{Form, ofPose, fits, posed}
 use Rattle.transforms_c.specs.Flat.{flat, flatPose}
-use Rattle.transforms_c.specs.Lengths.{rowsFit, placesFit, headLen, instantsLen, posesLen}
+use Rattle.transforms_c.specs.Lengths.{rowsFit, capacityFits, headLen, instantsLen, posesLen}
 
 -- slices of the lengths told are opened, unless E or S is out of its bounds
 abbrev pub LengthsFit : Type 0
 LengthsFit =
-    (rows places : ℕ) (s : Store)
+    (rows capacity : ℕ) (s : Store)
     → length (s .head) ≡ headLen rows
-    → length (s .instants) ≡ instantsLen rows places
-    → length (s .poses) ≡ posesLen rows places
-    → sizesFit rows places s ≡ (rowsFit rows && placesFit places)
+    → length (s .instants) ≡ instantsLen rows capacity
+    → length (s .poses) ≡ posesLen rows capacity
+    → sizesFit rows capacity s ≡ (rowsFit rows && capacityFits capacity)
 
 -- The struct fixes the reply of the call that was made: two replies with answers of one form that fit are equal where their structs are.
 abbrev pub FlatFixes : Type 0

@@ -1,12 +1,15 @@
-// The answers of the calls and of the pose operations as one struct.
+// The replies of the calls and of the pose operations as one struct, filled by what they carry.
 use super::answer::Answer;
 use geometry::isometry::Isometry;
 use geometry::transform;
 use registry::answer;
+use registry::answer::Carried;
 use registry::answer::Covered;
+use registry::answer::Reply;
 ghost use mathlib.Core.Path.{_≡_};
+ghost use Rattle.time.specs.Reply.{refusal};
 ghost use Rattle.geometry.specs.Answers.{replyOf as poseReply};
-ghost use Rattle.registry.specs.Answers.{rangeOf, replyOf};
+ghost use Rattle.registry.specs.Answers.{rangeOf, replyOf, carriedBy, replied};
 ghost use Rattle.transforms_c.specs.Flat.{plain, posed, anyInstant, atInstant, normed, framed, ranged, flat, flatPose};
 
 // A number that carries nothing.
@@ -76,44 +79,41 @@ fn ranged(number: u32, frame: u32, covered: Covered) -> Answer
     r
 }
 
+// A refusal, by what it carries.
+fn refused(number: u32, carried: Carried) -> Answer
+    ensures { λ r. ⌜ r ≡ flat (refusal number (carriedBy carried)) ⌝ }
+{
+    match carried {
+        Carried::Nothing => plain(number),
+        Carried::Norm(norm) => normed(number, norm),
+        Carried::Frame(frame) => framed(number, frame),
+        Carried::Hop(child, covered) => ranged(number, child, covered),
+    }
+}
+
+// The struct of a reply.
+fn filled(reply: Reply) -> Answer
+    ensures { λ r. ⌜ r ≡ flat (replied reply) ⌝ }
+{
+    match reply {
+        Reply::Done => plain(0),
+        Reply::Pose(pose) => posed(pose),
+        Reply::Static => any_instant(),
+        Reply::At(instant) => at_instant(instant),
+        Reply::Refusal(number, carried) => refused(number, carried),
+    }
+}
+
 // Of a call on a store.
 pub(crate) fn flat(a: answer::Answer) -> Answer
     ensures { λ r. ⌜ r ≡ flat (replyOf a) ⌝ }
 {
-    match a {
-        answer::Answer::Done => plain(0),
-        answer::Answer::Pose(pose) => posed(pose),
-        answer::Answer::Static => any_instant(),
-        answer::Answer::At(instant) => at_instant(instant),
-        answer::Answer::Sizes => plain(1),
-        answer::Answer::UnsoundStore => plain(2),
-        answer::Answer::NonFiniteValues => plain(3),
-        answer::Answer::NonUnitRotation(norm) => normed(4, norm),
-        answer::Answer::SelfReferentialFrame => plain(5),
-        answer::Answer::ReparentingNotSupported(parent) => framed(6, parent),
-        answer::Answer::CycleDetected => plain(7),
-        answer::Answer::StaticDynamicConflict => plain(8),
-        answer::Answer::UnknownFrame(frame) => framed(9, frame),
-        answer::Answer::Disconnected => plain(10),
-        answer::Answer::NotFoundAt(child, range) => ranged(11, child, range),
-        answer::Answer::NoCommonTime(child, range) => ranged(12, child, range),
-        answer::Answer::NonFinite => plain(13),
-        answer::Answer::ZeroLengthNormalization => plain(14),
-        answer::Answer::TreeFull => plain(16),
-        answer::Answer::RowFull => plain(17),
-    }
+    filled(Reply::of_tree(a))
 }
 
 // Of an operation on poses.
 pub(crate) fn flat_pose(a: transform::Answer) -> Answer
     ensures { λ r. ⌜ r ≡ flatPose (poseReply a) ⌝ }
 {
-    match a {
-        transform::Answer::Pose(pose) => posed(pose),
-        transform::Answer::NonFiniteValues => plain(3),
-        transform::Answer::NonUnitRotation(norm) => normed(4, norm),
-        transform::Answer::NonFinite => plain(13),
-        transform::Answer::ZeroLengthNormalization => plain(14),
-        transform::Answer::DurationUnderflow => plain(15),
-    }
+    filled(Reply::of_pose(a))
 }

@@ -24,7 +24,7 @@ pub extern "C" fn transforms_open(
     max_age: u64,
 ) -> Answer
     ensures { λ r. ⌜ returned r (now (head .exit)) (now (instants .exit)) (now (poses .exit))
-        ≡ flatOutcome (openOf (storeOf (now (head .entry)) (now (instants .entry)) (now (poses .entry))) (record { rows = rows; places = samples; age = ageOfFlag «has_max_age» «max_age» })) ⌝ }
+        ≡ flatOutcome (openOf (storeOf (now (head .entry)) (now (instants .entry)) (now (poses .entry))) (record { rows = rows; capacity = samples; age = ageOfFlag «has_max_age» «max_age» })) ⌝ }
 {
     let age = flags::max_age(has_max_age, max_age);
     flat::flat(open::open(head, instants, poses, rows, samples, age))

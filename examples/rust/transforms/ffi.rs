@@ -39,7 +39,7 @@ impl Answer {
             15 => Refusal::DurationUnderflow,
             16 => Refusal::TreeFull,
             17 => Refusal::RowFull,
-            other => unreachable!("no refusal has the number {other}"),
+            number => Refusal::Other { number },
         })
     }
 }

@@ -23,6 +23,8 @@ pub enum Refusal {
     DurationUnderflow,
     TreeFull,
     RowFull,
+    /// A refusal of a newer library, which has no name here.
+    Other { number: u32 },
 }
 
 impl Refusal {
@@ -45,6 +47,7 @@ impl Refusal {
             Refusal::DurationUnderflow => 15,
             Refusal::TreeFull => 16,
             Refusal::RowFull => 17,
+            Refusal::Other { number } => *number,
         }
     }
 }

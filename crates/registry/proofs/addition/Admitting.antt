@@ -1,6 +1,6 @@
 -- The tests of an addition before 17: one of them refuses, or what follows them decides.
-use Prim.Native.Nat.{ℕ, _<_}
-use mathlib.Core.Path.{_≡_, refl, sym, ap, _∙_}
+use Prim.Native.Nat.{ℕ, suc, _<_}
+use mathlib.Core.Path.{_≡_, refl, sym, ap, subst, _∙_}
 use mathlib.Core.Bool.{Bool, true, false, not, _&&_}
 use mathlib.Core.List.{List, [], _∷_}
 use mathlib.Core.Option.{Option, none, some}
@@ -10,6 +10,7 @@ use lib.Ieee.{Float, lt}
 use lib.ListN.{length}
 use borrow.Author.Tests.{leb-false}
 use types.Run.{OneOf, miss}
+use denote.Struct.Field.{Field}
 use denote.Enum.Declared.{tagOf}
 use Rattle.time.specs.Float.{_⊖_, one64, abs}
 use Rattle.time.specs.Reply.{Reply, Carried, answer, refusal, nothing, norm, frame, refuse, _then_}
@@ -20,15 +21,16 @@ use Rattle.geometry.specs.declared.transform.Answer.the-variants as transform
 use Rattle.geometry.specs.Vector3 as vector
 use Rattle.geometry.specs.Quaternion as quaternion
 use Rattle.geometry.specs.Transform.{tolerance, validate}
-use Rattle.geometry.specs.Answers as posed
+use Rattle.geometry.specs.Answers as poses
 use Rattle.geometry.proofs.transform.Answer.{the-type}
 use Rattle.registry.proofs.answer.Answer as declared
 use Rattle.registry.specs.declared.answer.Answer.{Answer}
 use Rattle.registry.specs.declared.answer.Answer.the-variants as enum
-use Rattle.registry.specs.Tree.{Edge, Tree, Limits, Addition, addition, isNew, ancestors, member, sameKind, kindOf, otherParent, thatParent, otherKind}
+use Rattle.registry.specs.Tree.{Edge, Tree, Limits, Addition, addition, isAbsent, ancestors, member, sameKind, kindOf, otherParent, currentParent, otherKind}
 use Rattle.registry.specs.Answers.{Value, done, replyOf}
-use Rattle.registry.specs.Store.{Store, rowsIn, usedIn, treeOf, limitsOf}
-use Rattle.registry.specs.addition.Adding.{posed, admits}
+use Rattle.registry.specs.Store.{Store, rowsIn, usedIn, limitsOf, treeOf}
+use Rattle.registry.specs.addition.Adding.{poseTests, admits}
+use Rattle.registry.proofs.ReplyInjective.{replyInjective}
 use Rattle.registry.proofs.layout.TreeRows.{length-tree}
 use Rattle.registry.proofs.addition.Accepted.{refusal-answer}
 
@@ -47,7 +49,7 @@ validate-three p k e =
     refuses-three (not (vector.isFinite (p .translation) && quaternion.isFinite (p .rotation))) (lt tolerance (abs (n ⊖ one64))) n p k e
 
 -- what is neither a pose nor 4
-pub validate-left : (a : geometry.Answer) (p : Isometry) → OneOf (1 ∷ 3 ∷ 4 ∷ 5 ∷ []) (tagOf the-type a) → posed.replyOf a ≡ validate p → refusal 3 nothing ≡ validate p
+pub validate-left : (a : geometry.Answer) (p : Isometry) → OneOf (1 ∷ 3 ∷ 4 ∷ 5 ∷ []) (tagOf the-type a) → poses.replyOf a ≡ validate p → refusal 3 nothing ≡ validate p
 validate-left (transform.Pose q) p h e = absurd (miss (1 ∷ 3 ∷ 4 ∷ 5 ∷ []) 0 tt h)
 validate-left transform.NonFiniteValues p h e = e
 validate-left (transform.NonUnitRotation n) p h e = absurd (miss (1 ∷ 3 ∷ 4 ∷ 5 ∷ []) 2 tt h)
@@ -56,11 +58,11 @@ validate-left transform.ZeroLengthNormalization p h e = absurd (let z = validate
 validate-left transform.DurationUnderflow p h e = absurd (let z = validate-three p 15 e in omega arith)
 
 module _ {A : Type 0} (child parent : ℕ) (p : Isometry) (next : Reply A) where
-  pub posed-refused : (k : ℕ) (c : Carried) → refusal k c ≡ validate p → refusal k c ≡ posed child parent p next
-  posed-refused k c e = rw (← e)
+  pub pose-tests-refused : (k : ℕ) (c : Carried) → refusal k c ≡ validate p → refusal k c ≡ poseTests child parent p next
+  pose-tests-refused k c e = rw (← e)
 
-  pub posed-passed : (q : Isometry) → answer q ≡ validate p → refuse (eqb parent child) 5 nothing next ≡ posed child parent p next
-  posed-passed q e = rw (← e)
+  pub pose-tests-passed : (q : Isometry) → answer q ≡ validate p → refuse (eqb parent child) 5 nothing next ≡ poseTests child parent p next
+  pose-tests-passed q e = rw (← e)
 
 -- ---- tests in a row: all pass, or one refuses whatever follows
 
@@ -70,14 +72,14 @@ pub data Decides {A : Type 0} (tried : Reply Value) (next whole : Reply A) : Typ
   fail : (k : ℕ) (c : Carried) → tried ≡ refusal k c → whole ≡ refusal k c → Decides tried next whole
 
 module _ {A : Type 0} where
-  posed-cases : (v : Reply Isometry) (b : Bool) (next : Reply A)
+  pose-tests-cases : (v : Reply Isometry) (b : Bool) (next : Reply A)
       → Decides (v then λ p. refuse b 5 nothing (answer done)) next (v then λ p. refuse b 5 nothing next)
-  posed-cases (refusal k c) b next = fail k c refl refl
-  posed-cases (answer q) true next = fail 5 nothing refl refl
-  posed-cases (answer q) false next = pass refl refl
+  pose-tests-cases (refusal k c) b next = fail k c refl refl
+  pose-tests-cases (answer q) true next = fail 5 nothing refl refl
+  pose-tests-cases (answer q) false next = pass refl refl
 
-  pub posed-decides : (child parent : ℕ) (p : Isometry) (next : Reply A) → Decides (posed child parent p (answer done)) next (posed child parent p next)
-  posed-decides child parent p next = posed-cases (validate p) (eqb parent child) next
+  pub pose-tests-decides : (child parent : ℕ) (p : Isometry) (next : Reply A) → Decides (poseTests child parent p (answer done)) next (poseTests child parent p next)
+  pose-tests-decides child parent p next = pose-tests-cases (validate p) (eqb parent child) next
 
   admits-cases : (b7 : Bool) (v : Reply Isometry) (b5 b6 b8 b16 : Bool) (d : Carried) (next : Reply A)
       → Decides
@@ -95,36 +97,26 @@ module _ {A : Type 0} where
   pub admits-decides : (L : Limits) (t : Tree) (a : Addition) (held : Option Edge) (next : Reply A) → Decides (admits L t a held (answer done)) next (admits L t a held next)
   unfolding admits
   admits-decides L t a held next =
-      admits-cases (isNew held && member (a .child) (ancestors t (a .parent))) (validate (a .pose)) (eqb (a .parent) (a .child)) (otherParent held (a .parent)) (otherKind held (kindOf (a .stamp)))
-      (isNew held && leb (L .rows) (length t)) (thatParent held) next
+      admits-cases (isAbsent held && member (a .child) (ancestors t (a .parent))) (validate (a .pose)) (eqb (a .parent) (a .child)) (otherParent held (a .parent)) (otherKind held (kindOf (a .stamp)))
+      (isAbsent held && leb (L .rows) (length t)) (currentParent held) next
 
 -- ---- what an answer to the tests says of the whole
 
+-- the cases of an enum, counted from n
+abbrev counted : ℕ → List (List Field) → List ℕ
+counted n [] = []
+counted n (fields ∷ cases) = n ∷ counted (suc n) cases
+
+abbrev behindFirst : List ℕ → List ℕ
+behindFirst [] = []
+behindFirst (k ∷ ks) = ks
+
 -- every case of the answer but the first, `Done`
 abbrev pub others : List ℕ
-others = 1 ∷ 2 ∷ 3 ∷ 4 ∷ 5 ∷ 6 ∷ 7 ∷ 8 ∷ 9 ∷ 10 ∷ 11 ∷ 12 ∷ 13 ∷ 14 ∷ 15 ∷ 16 ∷ 17 ∷ 18 ∷ 19 ∷ []
+others = behindFirst (counted 0 declared.parts)
 
 pub not-done : (r : Answer) → OneOf others (tagOf declared.the-type r) → replyOf r ≡ answer done → ⊥
-not-done enum.Done h e = miss others 0 tt h
-not-done (enum.Pose p) h e = let z : _≡_ {A = ℕ} 0 1 = cc e in omega arith
-not-done enum.Static h e = let z : _≡_ {A = ℕ} 0 1 = cc e in omega arith
-not-done (enum.At i) h e = let z : _≡_ {A = ℕ} 0 1 = cc e in omega arith
-not-done enum.Sizes h e = refusal-answer e
-not-done enum.UnsoundStore h e = refusal-answer e
-not-done enum.NonFiniteValues h e = refusal-answer e
-not-done (enum.NonUnitRotation n) h e = refusal-answer e
-not-done enum.SelfReferentialFrame h e = refusal-answer e
-not-done (enum.ReparentingNotSupported f) h e = refusal-answer e
-not-done enum.CycleDetected h e = refusal-answer e
-not-done enum.StaticDynamicConflict h e = refusal-answer e
-not-done (enum.UnknownFrame f) h e = refusal-answer e
-not-done enum.Disconnected h e = refusal-answer e
-not-done (enum.NotFoundAt f c) h e = refusal-answer e
-not-done (enum.NoCommonTime f c) h e = refusal-answer e
-not-done enum.NonFinite h e = refusal-answer e
-not-done enum.ZeroLengthNormalization h e = refusal-answer e
-not-done enum.TreeFull h e = refusal-answer e
-not-done enum.RowFull h e = refusal-answer e
+not-done r h e = miss others 0 tt (subst (λ (a : Answer). OneOf others (tagOf declared.the-type a)) (replyInjective r enum.Done e) h)
 
 module _ {A : Type 0} {tried : Reply Value} {next whole : Reply A} where
   pub passed : Decides tried next whole → answer done ≡ tried → whole ≡ next
@@ -146,7 +138,7 @@ module _ (L : Limits) (t : Tree) (child parent : ℕ) (stamp : Stamp) (p : Isome
   a = addition child parent stamp p
 
   abbrev tested : Reply Value
-  tested = posed child parent p (answer done)
+  tested = poseTests child parent p (answer done)
 
   -- of a child that is held
   module _ (e : Edge) where
@@ -156,15 +148,15 @@ module _ (L : Limits) (t : Tree) (child parent : ℕ) (stamp : Stamp) (p : Isome
     abbrev afterPose : Reply Value
     afterPose = refuse (not (eqb (e .parent) parent)) 6 (frame (e .parent)) (refuse (not (sameKind (e .kind) (kindOf stamp))) 8 nothing (answer done))
 
-    held-is : held ≡ posed child parent p afterPose
+    held-is : held ≡ poseTests child parent p afterPose
     unfolding admits
     held-is = refl
 
     pub held-tested : (r : Answer) → OneOf others (tagOf declared.the-type r) → replyOf r ≡ tested → replyOf r ≡ held
-    held-tested r h d = same-refusal (posed-decides child parent p afterPose) r h d ∙ sym held-is
+    held-tested r h d = same-refusal (pose-tests-decides child parent p afterPose) r h d ∙ sym held-is
 
     held-after : answer done ≡ tested → held ≡ afterPose
-    held-after d = held-is ∙ passed (posed-decides child parent p afterPose) d
+    held-after d = held-is ∙ passed (pose-tests-decides child parent p afterPose) d
 
     pub held-other : answer done ≡ tested → eqb (e .parent) parent ≡ false → refusal 6 (frame (e .parent)) ≡ held
     held-other d q = sym (held-after d ∙ rw q)
@@ -184,15 +176,15 @@ module _ (L : Limits) (t : Tree) (child parent : ℕ) (stamp : Stamp) (p : Isome
     abbrev afterTested : Reply Value
     afterTested = refuse (leb (L .rows) (length t)) 16 nothing (answer done)
 
-    new-is : new ≡ posed child parent p afterTested
+    new-is : new ≡ poseTests child parent p afterTested
     unfolding admits
     new-is = rw q
 
     pub new-tested : (r : Answer) → OneOf others (tagOf declared.the-type r) → replyOf r ≡ tested → replyOf r ≡ new
-    new-tested r h d = same-refusal (posed-decides child parent p afterTested) r h d ∙ sym new-is
+    new-tested r h d = same-refusal (pose-tests-decides child parent p afterTested) r h d ∙ sym new-is
 
     pub new-room : answer done ≡ tested → afterTested ≡ new
-    new-room d = sym (new-is ∙ passed (posed-decides child parent p afterTested) d)
+    new-room d = sym (new-is ∙ passed (pose-tests-decides child parent p afterTested) d)
 
 -- 16, by the head's words
 pub room-is : (s : Store) (b : Bool) → leb (rowsIn s) (usedIn s) ≡ b

@@ -1,42 +1,49 @@
 -- What the hops of a path have in common, narrowed while climbing: what is left of the climb decides.
 use Prim.Native.Nat.{ℕ}
 use mathlib.Core.Path.{_≡_, sym, ap, subst, _∙_}
-use mathlib.Core.List.{List, []}
-use lib.Ieee.{Float}
-use Rattle.time.specs.Reply.{answer, _then_}
+use mathlib.Core.Option.{Option, none, some, Option·map}
+use mathlib.Core.List.{[]}
+use Rattle.time.specs.Reply.{Reply, answer, _then_}
 use Rattle.buffer.specs.declared.coverage.Coverage.{Coverage}
-use Rattle.buffer.specs.Samples.{coverage}
-use Rattle.registry.specs.declared.common_time.common.Narrowed.{Narrowed}
-use Rattle.registry.specs.Store.{rowWord, rowAt, treeOf}
-use Rattle.registry.specs.Calls.{storeOf}
-use Rattle.registry.specs.layout.Rows.{headOf, IsRow, IsAbsent}
-use Rattle.registry.specs.paths.Walks.{hopsTo, Walkable}
-use Rattle.registry.specs.common_time.Spans.{Sofar, narrowBy, narrowed, narrowedReply}
-use Rattle.registry.proofs.paths.SideHops.{hops-end, hops-found, hops-absent}
+use Rattle.buffer.specs.Map.{get}
+use Rattle.buffer.proofs.Cases.{none-some}
+use Rattle.registry.specs.declared.paths.edges.HopCoverage.{HopCoverage}
+use Rattle.registry.specs.Tree.{Tree}
+use Rattle.registry.specs.paths.Edges.{edgeCoverage, coverageRead}
+use Rattle.registry.specs.paths.Walks.{hopsTo}
+use Rattle.registry.specs.common_time.Spans.{CommonSpan, narrowBy, narrowed}
+use Rattle.registry.proofs.paths.Climbing.{edge-or, Grounded}
+use Rattle.registry.proofs.paths.SideHops.{ChildOf, hops-end, hops-up, hops-root}
+
+pub coverage-parent : (t : Tree) (f : ℕ) (c : Coverage) (p : ℕ) → some (c, p) ≡ edgeCoverage t f → ChildOf t f p
+coverage-parent t f c p e =
+    edge-or (get t f)
+    (λ q. absurd (none-some {a = p} (sym (ap (Option·map (λ x. x .1)) e ∙ rw q))))
+    (λ d q. (d, q, (let z : some p ≡ some (d .parent) = ap (Option·map (λ x. x .1)) e ∙ rw q in cc)))
+
+-- ---- the hops from a frame, by its coverage
+
+abbrev pub narrowOn : Tree → (f top : ℕ) → CommonSpan → Option (Coverage × ℕ) → Reply CommonSpan
+narrowOn t f top d none = answer d
+narrowOn t f top d (some x) = narrowBy d f (x .0) then λ e. narrowed e (hopsTo t (x .1) top)
+
+narrowed-by : (t : Tree) → Grounded t → (f top : ℕ) (d : CommonSpan) → (f ≡ top → ⊥) → narrowed d (hopsTo t f top) ≡ narrowOn t f top d (edgeCoverage t f)
+narrowed-by t gr f top d ne =
+    edge-or (get t f)
+    (λ q. ap (narrowed d) (hops-root t gr f top q) ∙ sym (rw q))
+    (λ e q. ap (narrowed d) (hops-up t gr f top e q (λ z. ne (sym z))) ∙ sym (rw q))
+
+-- ---- the climb
 
 -- the hops from the frame narrow c as those from `at` narrow d
-abbrev pub Narrowing : (h i : List ℕ) (frame top : ℕ) → Sofar → ℕ → Sofar → Type 0
-Narrowing h i frame top c at d =
-    (poses : List Float) → narrowed c (hopsTo (treeOf (storeOf h i poses)) frame top) ≡ narrowed d (hopsTo (treeOf (storeOf h i poses)) at top)
+abbrev pub Narrowing : Tree → (frame top : ℕ) → CommonSpan → ℕ → CommonSpan → Type 0
+Narrowing t frame top c at d = narrowed c (hopsTo t frame top) ≡ narrowed d (hopsTo t at top)
 
-module _ (h i : List ℕ) (n : ℕ) (p : Walkable n h i) (frame top : ℕ) (c : Sofar) (at : ℕ) (d : Sofar) (w : Narrowing h i frame top c at d) where
-  abbrev Ends : Type 0
-  Ends = (poses : List Float) → answer d ≡ narrowed c (hopsTo (treeOf (storeOf h i poses)) frame top)
+module _ (t : Tree) (frame top : ℕ) (c : CommonSpan) (at : ℕ) (d : CommonSpan) (w : Narrowing t frame top c at d) where
+  pub narrowing-top : at ≡ top → answer d ≡ narrowed c (hopsTo t frame top)
+  narrowing-top e = sym (w ∙ ap (narrowed d) (subst (λ (x : ℕ). hopsTo t at x ≡ []) e (hops-end t at)))
 
-  pub narrowing-root : (k : ℕ) → IsAbsent n h at k → Ends
-  narrowing-root k absent poses = sym (w poses ∙ ap (narrowed d) (hops-absent (storeOf h i poses) n (p .rows) (p .circles i poses) at k top absent))
-
-  pub narrowing-top : at ≡ top → Ends
-  narrowing-top e poses =
-      let t = treeOf (storeOf h i poses) in
-      sym (w poses ∙ ap (narrowed d) (subst (λ (x : ℕ). hopsTo t at x ≡ []) e (hops-end t at)))
-
-  module _ (r : ℕ) (found : IsRow n h at r) (ne : at ≡ top → ⊥) (k : Coverage) where
-    -- with a hop of the coverage k they narrow to g, which is v
-    pub narrowing-hop : ((poses : List Float) → k ≡ coverage (rowAt (storeOf h i poses) r .1 .kind) (rowAt (storeOf h i poses) r .1 .samples))
-        → (g v : Narrowed) → g ≡ v → narrowedReply g ≡ narrowBy d at k
-        → (poses : List Float) → narrowed c (hopsTo (treeOf (storeOf h i poses)) frame top)
-        ≡ (narrowedReply v then λ e. narrowed e (hopsTo (treeOf (storeOf h i poses)) (rowWord (headOf h) r 1) top))
-    narrowing-hop covers g v q e poses =
-        w poses ∙ ap (narrowed d) (hops-found (storeOf h i poses) n (p .rows) (p .circles i poses) at r found top ne)
-        ∙ rw (← covers poses, ← e, q)
+  -- of `at` r was read, which is v
+  pub narrowing-hop : Grounded t → (at ≡ top → ⊥) → {r v : HopCoverage} → r ≡ v → coverageRead r ≡ edgeCoverage t at
+      → narrowed c (hopsTo t frame top) ≡ narrowOn t at top d (coverageRead v)
+  narrowing-hop gr ne told e = w ∙ narrowed-by t gr at top d ne ∙ ap (narrowOn t at top d) (sym e ∙ ap coverageRead told)

@@ -13,16 +13,16 @@ use Rattle.time.specs.Reply.{answer, nothing, refuse}
 use Rattle.buffer.specs.Map.{Map, get, put}
 use Rattle.buffer.proofs.Cases.{both, none-some}
 use Rattle.buffer.proofs.Maps.{Rising, get-put-same, get-put-other, rising-put, ext}
-use Rattle.registry.specs.Tree.{Edge, Tree, Limits, Addition, grown, add}
-use Rattle.registry.specs.Store.{Store, encode, limitsOf, sizesFit}
+use Rattle.registry.specs.Tree.{Edge, Tree, Limits, Addition, updatedEdge, add}
+use Rattle.registry.specs.Store.{Store, limitsOf, stored, sizesFit}
 use Rattle.registry.specs.Answers.{done}
-use Rattle.registry.specs.Calls.{written, onTree, openOf, addOf}
+use Rattle.registry.specs.Calls.{written, openOf, onTree, addOf}
 use Rattle.registry.specs.History.{isAnswer, run, accepted, own, poseBits, SameFrame}
 use Rattle.registry.specs.Demand3.{EveryBit, Opened, Demand3}
 use Rattle.registry.proofs.layout.StoreBack.{Fits}
-use Rattle.registry.proofs.histories.Bits.{mapValues, get-mapValues, rising-mapValues, EdgeBits, edgeBits, treeBits, same-bits}
+use Rattle.registry.proofs.layout.StoredBits.{mapValues, get-mapValues, rising-mapValues, EdgeBits, edgeBits, treeBits, same-bits}
 use Rattle.registry.proofs.addition.Accepted.{Suits, add-accepted, accepted-fits}
-use Rattle.registry.proofs.histories.Histories.{select-snoc, HeldIs, edge-grown, parentIn, kindIn, sampleIn, RisingIn, FrameIs, frame-is}
+use Rattle.registry.proofs.histories.Histories.{select-snoc, HeldIs, edge-updated, parentIn, kindIn, sampleIn, RisingIn, FrameIs, frame-is}
 use Rattle.registry.proofs.histories.Runs.{run-ind, written-refused, on-encoded}
 
 -- ---- a tree and the accepted additions
@@ -34,24 +34,24 @@ pub record Holds (age : Option ℕ) (t : Tree) (xs : List Addition) : Type 0 whe
 
 -- one more accepted addition
 pub holds-more : (age : Option ℕ) (t : Tree) (xs : List Addition) (a : Addition) → Holds age t xs → Suits (get t (a .child)) a
-    → Holds age (put (a .child) (grown age a (get t (a .child))) t) (xs ++ (a ∷ []))
+    → Holds age (put (a .child) (updatedEdge age a (get t (a .child))) t) (xs ++ (a ∷ []))
 holds-more age t xs a h s = record { rising = rising-put (a .child) _ t (h .rising); edges = edges }
   where
-    edges : (f : ℕ) → HeldIs age (own f (xs ++ (a ∷ []))) (get (put (a .child) (grown age a (get t (a .child))) t) f)
+    edges : (f : ℕ) → HeldIs age (own f (xs ++ (a ∷ []))) (get (put (a .child) (updatedEdge age a (get t (a .child))) t) f)
     edges f =
         rw select-snoc
         (both (eqb (a .child) f)
         (λ e.
         rw (e, ← eqb-true (a .child) f e, get-put-same)
-        (edge-grown age (own (a .child) xs) (get t (a .child)) a (h .edges (a .child)) s))
-        (λ e. rw (e, get-put-other (a .child) f (grown age a (get t (a .child))) t (λ q. eqb-false (a .child) f e (sym q))) (h .edges f)))
+        (edge-updated age (own (a .child) xs) (get t (a .child)) a (h .edges (a .child)) s))
+        (λ e. rw (e, get-put-other (a .child) f (updatedEdge age a (get t (a .child))) t (λ q. eqb-false (a .child) f e (sym q))) (h .edges f)))
 
 -- ---- a store and the accepted additions, through a whole list
 
 -- the store is the words of a tree that fits the limits and is what the accepted additions say
 pub record Stands (L : Limits) (s : Store) (xs : List Addition) : Type 0 where
   pub tree : Tree
-  pub words : s ≡ encode L tree
+  pub words : s ≡ stored L tree
   pub fits : Fits L tree
   pub holds : Holds (L .age) tree xs
 
@@ -59,13 +59,13 @@ opened-stands : (L : Limits) (s : Store) → Opened L s → Stands L s []
 unfolding openOf
 opened-stands L s o = record {
   tree = [];
-  words = o .left ∙ opened (not (sizesFit (L .rows) (L .places) (o .lent))) (o .done);
+  words = o .left ∙ opened (not (sizesFit (L .rows) (L .capacity) (o .lent))) (o .done);
   fits = record { rows = omega arith; samples = refl };
   holds = record { rising = tt; edges = λ f. refl };
 }
   where
     opened : (b : Bool) → written (o .lent) L (refuse b 1 nothing (answer [])) .reply ≡ answer done
-        → written (o .lent) L (refuse b 1 nothing (answer [])) .store ≡ encode L []
+        → written (o .lent) L (refuse b 1 nothing (answer [])) .store ≡ stored L []
     opened true e = cc e
     opened false e = refl
 
@@ -73,8 +73,8 @@ add-refused : (s : Store) (a : Addition) → isAnswer (addOf s a .reply) ≡ fal
 unfolding addOf
 add-refused s a e = written-refused s (limitsOf s) (onTree s (λ L t. add L t a)) e
 
-add-encoded : (L : Limits) (t : Tree) → Fits L t → (a : Addition) → isAnswer (addOf (encode L t) a .reply) ≡ true
-    → (u : Tree) × (add L t a ≡ answer u) × (addOf (encode L t) a .store ≡ encode L u)
+add-encoded : (L : Limits) (t : Tree) → Fits L t → (a : Addition) → isAnswer (addOf (stored L t) a .reply) ≡ true
+    → (u : Tree) × (add L t a ≡ answer u) × (addOf (stored L t) a .store ≡ stored L u)
 unfolding addOf
 add-encoded L t fits a e = on-encoded L t fits (λ M v. add M v a) e
 
@@ -177,5 +177,5 @@ demand3 L s t os ot xs ys = (
     sy : Stands L (run addOf t ys) (accepted addOf t ys)
     sy = stands L t ot ys
 
-    bits : EveryBit (encode L (sx .tree)) (encode L (sy .tree)) ↔ (treeBits (sx .tree) ≡ treeBits (sy .tree))
+    bits : EveryBit (stored L (sx .tree)) (stored L (sy .tree)) ↔ (treeBits (sx .tree) ≡ treeBits (sy .tree))
     bits = same-bits L (sx .tree) (sy .tree) (sx .fits) (sy .fits)

@@ -17,7 +17,7 @@ use Rattle.buffer.specs.Samples.{Samples, newest, survives, insert, last?}
 use Rattle.buffer.proofs.Cases.{both, none-some}
 use Rattle.buffer.proofs.Maps.{Rising}
 use Rattle.buffer.proofs.SampleLaws.{survives-zero, survives-down, newest-insert, get-insert, rising-insert}
-use Rattle.registry.specs.Tree.{Edge, Addition, kindOf, instantOf, grown}
+use Rattle.registry.specs.Tree.{Edge, Addition, kindOf, instantOf, updatedEdge}
 use Rattle.registry.specs.History.{select, greatest, own, parentOf, frameKind, lastPose, atInstant, newestInstant, recent, survivorIn, survivor}
 use Rattle.registry.proofs.addition.Accepted.{Suits}
 
@@ -92,14 +92,14 @@ abbrev pub HeldIs : Option ℕ → List Addition → Option Edge → Type 0
 HeldIs age xs none = xs ≡ []
 HeldIs age xs (some e) = EdgeIs age xs e
 
-pub edge-grown : (age : Option ℕ) (xs : List Addition) (held : Option Edge) (a : Addition)
-    → HeldIs age xs held → Suits held a → EdgeIs age (xs ++ (a ∷ [])) (grown age a held)
-edge-grown age xs none a r s = rw r first
+pub edge-updated : (age : Option ℕ) (xs : List Addition) (held : Option Edge) (a : Addition)
+    → HeldIs age xs held → Suits held a → EdgeIs age (xs ++ (a ∷ [])) (updatedEdge age a held)
+edge-updated age xs none a r s = rw r first
   where
     empty : (i : ℕ) → none ≡ left age [] i
     empty i = both (survives age 0 i) (λ e. rw e) (λ e. rw e)
 
-    first : EdgeIs age (a ∷ []) (grown age a none)
+    first : EdgeIs age (a ∷ []) (updatedEdge age a none)
     first = record {
       samples-are = left-snoc age [] a [] refl empty;
       newest-is = newest-insert age (instantOf (a .stamp)) (a .pose) [];
@@ -108,7 +108,7 @@ edge-grown age xs none a r s = rw r first
       alike = (refl, tt);
       rising = rising-insert age (instantOf (a .stamp)) (a .pose) [] tt;
     }
-edge-grown age xs (some e) a r s = record {
+edge-updated age xs (some e) a r s = record {
   samples-are = left-snoc age xs a (e .samples) (r .newest-is) (r .samples-are);
   newest-is = newest-insert age (instantOf (a .stamp)) (a .pose) (e .samples) ∙ rw (greatest-snoc, r .newest-is);
   parent-is = head-snoc (λ (x : Addition). x .parent) xs a (e .parent) (r .parent-is);

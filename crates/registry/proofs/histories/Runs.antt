@@ -5,7 +5,7 @@ use mathlib.Core.List.{List, [], _∷_, _++_, append-assoc, append-nil}
 use Rattle.time.specs.Reply.{Reply, answer, refusal, nothing}
 use Rattle.buffer.proofs.Cases.{both, false-true}
 use Rattle.registry.specs.Tree.{Tree, Limits}
-use Rattle.registry.specs.Store.{Store, encode, treeOf, limitsOf, sized}
+use Rattle.registry.specs.Store.{Store, limitsOf, treeOf, stored, sized}
 use Rattle.registry.specs.Sound.{sound}
 use Rattle.registry.specs.Calls.{Outcome, written, onTree}
 use Rattle.registry.specs.History.{isAnswer, run, accepted}
@@ -34,7 +34,7 @@ written-refused s L (refusal k c) e = refl
 
 -- what is answered with done is the words of a tree
 pub written-answered : (s : Store) (L : Limits) (r : Reply Tree) → isAnswer (written s L r .reply) ≡ true
-    → (t : Tree) × (r ≡ answer t) × (written s L r .store ≡ encode L t)
+    → (t : Tree) × (r ≡ answer t) × (written s L r .store ≡ stored L t)
 written-answered s L (answer t) e = (t, refl, refl)
 written-answered s L (refusal k c) e = absurd (false-true e)
 
@@ -48,11 +48,11 @@ abbrev pub writtenTo : Store → (Limits → Tree → Reply Tree) → Outcome
 writtenTo s call = written s (limitsOf s) (onTree s call)
 
 -- answered on the store of a tree that fits, it is answered on that tree, and the tree that it answers is held afterwards
-pub on-encoded : (L : Limits) (t : Tree) → Fits L t → (call : Limits → Tree → Reply Tree) → isAnswer (writtenTo (encode L t) call .reply) ≡ true
-    → (u : Tree) × (call L t ≡ answer u) × (writtenTo (encode L t) call .store ≡ encode L u)
+pub on-encoded : (L : Limits) (t : Tree) → Fits L t → (call : Limits → Tree → Reply Tree) → isAnswer (writtenTo (stored L t) call .reply) ≡ true
+    → (u : Tree) × (call L t ≡ answer u) × (writtenTo (stored L t) call .store ≡ stored L u)
 on-encoded L t fits call e =
-    let w = written-answered (encode L t) (limitsOf (encode L t)) (onTree (encode L t) call) e in (
+    let w = written-answered (stored L t) (limitsOf (stored L t)) (onTree (stored L t) call) e in (
       w .0,
-      (λ i. call (sym (limits-back L t) i) (sym (tree-back L t fits) i)) ∙ on-tree (encode L t) call (w .0) (w .1),
-      w .2 ∙ ap (λ (M : Limits). encode M (w .0)) (limits-back L t),
+      (λ i. call (sym (limits-back L t) i) (sym (tree-back L t fits) i)) ∙ on-tree (stored L t) call (w .0) (w .1),
+      w .2 ∙ ap (λ (M : Limits). stored M (w .0)) (limits-back L t),
     )

@@ -38,15 +38,15 @@ module _ {X B : Type 0} (f : X → List B) (w : ℕ) (ok : X → Bool) (wide : (
   concat-cut [] h = refl
   concat-cut (x ∷ xs) h = λ i. sym (cut-same x (and-left (ok x) _ h)) i ++ concat-cut xs (and-right (ok x) _ h) i
 
-  module _ (places : ℕ) (z : B) (y : X) (xs : List X) (p : ok y ≡ true) (h : all ok xs ≡ true) where
+  module _ (capacity : ℕ) (z : B) (y : X) (xs : List X) (p : ok y ≡ true) (h : all ok xs ≡ true) where
     pub insert-fit : (k : ℕ) → k ≤ length xs
-        → inserted (w * k) (w * length xs) (f y) (padded (w * places) z (concatMap f xs)) ≡ padded (w * places) z (concatMap f (take k xs ++ y ∷ drop k xs))
+        → inserted (w * k) (w * length xs) (f y) (padded (w * capacity) z (concatMap f xs)) ≡ padded (w * capacity) z (concatMap f (take k xs ++ y ∷ drop k xs))
     insert-fit k l =
         rw (concat-cut xs h, concat-cut (take k xs ++ y ∷ drop k xs) (all-insert ok k y xs p h), ← cut-same y p)
-        (insert-block cut w cut-wide places z k y xs l)
+        (insert-block cut w cut-wide capacity z k y xs l)
 
     pub replace-fit : (k : ℕ) → k < length xs
-        → replaced (w * k) (f y) (padded (w * places) z (concatMap f xs)) ≡ padded (w * places) z (concatMap f (set xs k y))
+        → replaced (w * k) (f y) (padded (w * capacity) z (concatMap f xs)) ≡ padded (w * capacity) z (concatMap f (set xs k y))
     replace-fit k l =
         rw (concat-cut xs h, concat-cut (set xs k y) (all-set ok k y xs p h), ← cut-same y p)
-        (replace-block cut w cut-wide places z k y xs l)
+        (replace-block cut w cut-wide capacity z k y xs l)

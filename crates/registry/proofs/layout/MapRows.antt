@@ -1,4 +1,4 @@
--- A rising map by the places of its pairs: where `get` finds a number, and where `put` puts it.
+-- A rising map by the capacity of its pairs: where `get` finds a number, and where `put` puts it.
 use Prim.Native.Nat.{ℕ, zero, suc, _≤_, _<_}
 use mathlib.Core.Path.{_≡_, refl, sym, ap}
 use mathlib.Core.Logic.{_↔_}

@@ -1,5 +1,5 @@
 -- What the sizes of a store say, clause by clause.
-use Prim.Native.Nat.{ℕ, _+_, _*_}
+use Prim.Native.Nat.{ℕ}
 use mathlib.Core.Path.{_≡_}
 use mathlib.Core.Logic.{_↔_}
 use mathlib.Core.Bool.{true}
@@ -8,15 +8,15 @@ use lib.Dec.{leb}
 use lib.ListN.{length}
 use borrow.Author.Tests.{leb-true, le-leb, eqb-true, eq-eqb}
 use Rattle.buffer.proofs.Cases.{and-both, and-right}
-use Rattle.registry.specs.Store.{Store, rowsIn, placesIn, sizesFit, sized}
+use Rattle.registry.specs.Store.{Store, headLength, instantsLength, posesLength, rowsIn, capacityIn, sizesFit, sized}
 use Rattle.registry.specs.Laws.{InRange}
 use Rattle.registry.proofs.soundness.Everys.{and-parts}
 
-pub record Sizes (rows places : ℕ) (s : Store) : Type 0 where
-  pub range : InRange rows places
-  pub head : length (s .head) ≡ 5 + 4 * rows
-  pub instants : length (s .instants) ≡ rows * places
-  pub poses : length (s .poses) ≡ 7 * (rows * places)
+pub record Sizes (rows capacity : ℕ) (s : Store) : Type 0 where
+  pub range : InRange rows capacity
+  pub head : length (s .head) ≡ headLength rows
+  pub instants : length (s .instants) ≡ instantsLength rows capacity
+  pub poses : length (s .poses) ≡ posesLength rows capacity
 
 module _ (E S : ℕ) (s : Store) where
   sizes-of : sizesFit E S s ≡ true → Sizes E S s
@@ -31,8 +31,8 @@ module _ (E S : ℕ) (s : Store) where
         range = record {
           someRows = leb-true 1 E (h1 .0);
           fewRows = leb-true E 256 (h1 .1);
-          somePlaces = leb-true 1 S (h2 .1);
-          fewPlaces = leb-true S 1024 (h3 .1);
+          positiveCapacity = leb-true 1 S (h2 .1);
+          boundedCapacity = leb-true S 1024 (h3 .1);
         };
         head = eqb-true _ _ (h4 .1);
         instants = eqb-true _ _ (h5 .1);
@@ -46,8 +46,8 @@ module _ (E S : ℕ) (s : Store) where
       (and-both _ _
       (and-both _ _
       (and-both _ _
-      (and-both _ _ (and-both _ _ (le-leb 1 E (r .someRows)) (le-leb E 256 (r .fewRows))) (le-leb 1 S (r .somePlaces)))
-      (le-leb S 1024 (r .fewPlaces)))
+      (and-both _ _ (and-both _ _ (le-leb 1 E (r .someRows)) (le-leb E 256 (r .fewRows))) (le-leb 1 S (r .positiveCapacity)))
+      (le-leb S 1024 (r .boundedCapacity)))
       (eq-eqb _ _ (z .head)))
       (eq-eqb _ _ (z .instants)))
       (eq-eqb _ _ (z .poses))
@@ -55,9 +55,9 @@ module _ (E S : ℕ) (s : Store) where
   pub sizes-fit-is : (sizesFit E S s ≡ true) ↔ Sizes E S s
   sizes-fit-is = (sizes-of, of-sizes)
 
-pub sized-is : (s : Store) → (sized s ≡ true) ↔ Sizes (rowsIn s) (placesIn s) s
+pub sized-is : (s : Store) → (sized s ≡ true) ↔ Sizes (rowsIn s) (capacityIn s) s
 unfolding sized
 sized-is s = (
-  λ h. sizes-of (rowsIn s) (placesIn s) s (and-right (leb 5 (length (s .head))) _ h),
-  λ z. and-both _ _ (le-leb 5 (length (s .head)) (let h = z .head in omega arith)) (of-sizes (rowsIn s) (placesIn s) s z),
+  λ h. sizes-of (rowsIn s) (capacityIn s) s (and-right (leb 5 (length (s .head))) _ h),
+  λ z. and-both _ _ (le-leb 5 (length (s .head)) (let h = z .head in omega arith)) (of-sizes (rowsIn s) (capacityIn s) s z),
 )

@@ -18,7 +18,7 @@ use Rattle.buffer.specs.Row.{concatMap, instantWords, poseWords}
 use Rattle.buffer.proofs.Alls.{all-at}
 use Rattle.buffer.proofs.RowBack.{length-padded, length-instantWords, length-poseWords, read-back}
 use Rattle.registry.specs.Tree.{Edge, Tree, Limits}
-use Rattle.registry.specs.Store.{kindWord, flagWord, ageWord, rowWords, encode, ageOf, limitsOf, kindOfWord, rowWord, rowInstants, rowPoses, rowAt, tabulate, treeOf}
+use Rattle.registry.specs.Store.{kindWord, flagWord, ageWord, rowWords, encode, ageOf, limitsOf, rowWord, kindOfWord, rowInstants, rowPoses, rowAt, tabulate, treeOf, stored}
 
 -- ---- the limits
 
@@ -26,9 +26,9 @@ pub age-back : (age : Option ℕ) → ageOf (flagWord age) (ageWord age) ≡ age
 age-back none = refl
 age-back (some n) = refl
 
-pub limits-back : (L : Limits) (t : Tree) → limitsOf (encode L t) ≡ L
-unfolding limitsOf encode
-limits-back L t = λ i. record { rows = L .rows; places = L .places; age = age-back (L .age) i }
+pub limits-back : (L : Limits) (t : Tree) → limitsOf (stored L t) ≡ L
+unfolding limitsOf stored encode
+limits-back L t = λ i. record { rows = L .rows; capacity = L .capacity; age = age-back (L .age) i }
 
 -- ---- blocks of one width n, one after the other; d stands for an element that is not there
 
@@ -76,71 +76,71 @@ kind-back Dynamic = refl
 
 pub record Fits (L : Limits) (t : Tree) : Type 0 where
   pub rows : length t ≤ L .rows
-  pub samples : all (λ x. leb (length (x .1 .samples)) (L .places)) t ≡ true
+  pub samples : all (λ x. leb (length (x .1 .samples)) (L .capacity)) t ≡ true
 
 abbrev pub blank : ℕ × Edge
 blank = (0, record { parent = 0; kind = Static; samples = [] })
 
 module _ (L : Limits) (t : Tree) (fits : Fits L t) where
-  few : (r : ℕ) → r < length t → length (getD t r blank .1 .samples) ≤ L .places
-  few r l = leb-true _ _ (all-at (λ x. leb (length (x .1 .samples)) (L .places)) t blank .0 (fits .samples) r l)
+  few : (r : ℕ) → r < length t → length (getD t r blank .1 .samples) ≤ L .capacity
+  few r l = leb-true _ _ (all-at (λ x. leb (length (x .1 .samples)) (L .capacity)) t blank .0 (fits .samples) r l)
 
   pub wide-rows : Wide rowWords 4 blank t
   wide-rows r l = refl
 
-  pub wide-instants : Wide (λ x. instantWords (L .places) (x .1 .samples)) (L .places) blank t
-  wide-instants r l = length-instantWords (L .places) (getD t r blank .1 .samples) (few r l)
+  pub wide-instants : Wide (λ x. instantWords (L .capacity) (x .1 .samples)) (L .capacity) blank t
+  wide-instants r l = length-instantWords (L .capacity) (getD t r blank .1 .samples) (few r l)
 
-  pub wide-poses : Wide (λ x. poseWords (L .places) (x .1 .samples)) (7 * L .places) blank t
-  wide-poses r l = length-poseWords (L .places) (getD t r blank .1 .samples) (few r l)
+  pub wide-poses : Wide (λ x. poseWords (L .capacity) (x .1 .samples)) (7 * L .capacity) blank t
+  wide-poses r l = length-poseWords (L .capacity) (getD t r blank .1 .samples) (few r l)
 
   -- ---- the lengths of the slices
 
-  pub length-head : length (encode L t .head) ≡ 5 + 4 * L .rows
-  unfolding encode
+  pub length-head : length (stored L t .head) ≡ 5 + 4 * L .rows
+  unfolding stored encode
   length-head =
       let h = fits .rows in
       let w = length-blocks rowWords 4 blank t wide-rows in
       let p = length-padded (4 * L .rows) 0 (concatMap rowWords t) (omega arith) in
       omega arith
 
-  pub length-instants : length (encode L t .instants) ≡ L .rows * L .places
-  unfolding encode
+  pub length-instants : length (stored L t .instants) ≡ L .rows * L .capacity
+  unfolding stored encode
   length-instants =
-      length-padded (L .rows * L .places) 0 (concatMap (λ x. instantWords (L .places) (x .1 .samples)) t)
-      (rw (length-blocks _ (L .places) blank t wide-instants) (mul-le-mul-right (L .places) (fits .rows)))
+      length-padded (L .rows * L .capacity) 0 (concatMap (λ x. instantWords (L .capacity) (x .1 .samples)) t)
+      (rw (length-blocks _ (L .capacity) blank t wide-instants) (mul-le-mul-right (L .capacity) (fits .rows)))
 
-  pub length-poses : length (encode L t .poses) ≡ 7 * (L .rows * L .places)
-  unfolding encode
+  pub length-poses : length (stored L t .poses) ≡ 7 * (L .rows * L .capacity)
+  unfolding stored encode
   length-poses =
-      length-padded (7 * (L .rows * L .places)) zero64 (concatMap (λ x. poseWords (L .places) (x .1 .samples)) t)
-      (rw (length-blocks _ (7 * L .places) blank t wide-poses, mul-left-comm 7 (L .rows) (L .places)) (mul-le-mul-right (7 * L .places) (fits .rows)))
+      length-padded (7 * (L .rows * L .capacity)) zero64 (concatMap (λ x. poseWords (L .capacity) (x .1 .samples)) t)
+      (rw (length-blocks _ (7 * L .capacity) blank t wide-poses, mul-left-comm 7 (L .rows) (L .capacity)) (mul-le-mul-right (7 * L .capacity) (fits .rows)))
 
   -- ---- the tree
 
-  pub word-back : (r j : ℕ) → r < length t → j < 4 → rowWord (encode L t) r j ≡ getD (rowWords (getD t r blank)) j 0
-  unfolding encode
+  pub word-back : (r j : ℕ) → r < length t → j < 4 → rowWord (stored L t) r j ≡ getD (rowWords (getD t r blank)) j 0
+  unfolding stored encode
   word-back r j l k =
       let e : 5 + 4 * r + j ≡ 5 + (r * 4 + j) = omega arith in
       rw e
-      (sym (getD-drop 5 (encode L t .head) (r * 4 + j) 0)
+      (sym (getD-drop 5 (stored L t .head) (r * 4 + j) 0)
       ∙ word-at rowWords 4 blank t _ r j 0 wide-rows l k)
 
-  pub instants-back : (r : ℕ) → r < length t → rowInstants (encode L t) r ≡ instantWords (L .places) (getD t r blank .1 .samples)
-  unfolding encode
-  instants-back r l = block-at (λ x. instantWords (L .places) (x .1 .samples)) (L .places) blank t _ r wide-instants l
+  pub instants-back : (r : ℕ) → r < length t → rowInstants (stored L t) r ≡ instantWords (L .capacity) (getD t r blank .1 .samples)
+  unfolding stored encode
+  instants-back r l = block-at (λ x. instantWords (L .capacity) (x .1 .samples)) (L .capacity) blank t _ r wide-instants l
 
-  pub poses-back : (r : ℕ) → r < length t → rowPoses (encode L t) r ≡ poseWords (L .places) (getD t r blank .1 .samples)
-  unfolding encode
-  poses-back r l = rw (mul-left-comm 7 r (L .places)) (block-at (λ x. poseWords (L .places) (x .1 .samples)) (7 * L .places) blank t _ r wide-poses l)
+  pub poses-back : (r : ℕ) → r < length t → rowPoses (stored L t) r ≡ poseWords (L .capacity) (getD t r blank .1 .samples)
+  unfolding stored encode
+  poses-back r l = rw (mul-left-comm 7 r (L .capacity)) (block-at (λ x. poseWords (L .capacity) (x .1 .samples)) (7 * L .capacity) blank t _ r wide-poses l)
 
-  row-back : (r : ℕ) → r < length t → rowAt (encode L t) r ≡ getD t r blank
+  row-back : (r : ℕ) → r < length t → rowAt (stored L t) r ≡ getD t r blank
   row-back r l =
       let x = getD t r blank in
       rw (word-back r 0 l (omega arith), word-back r 1 l (omega arith), word-back r 2 l (omega arith), word-back r 3 l (omega arith))
       (rw (instants-back r l, poses-back r l)
-      (λ i. (x .0, record { parent = x .1 .parent; kind = kind-back (x .1 .kind) i; samples = read-back (L .places) (x .1 .samples) i })))
+      (λ i. (x .0, record { parent = x .1 .parent; kind = kind-back (x .1 .kind) i; samples = read-back (L .capacity) (x .1 .samples) i })))
 
-  pub tree-back : treeOf (encode L t) ≡ t
-  unfolding treeOf encode
-  tree-back = tabulate-is blank t (rowAt (encode L t)) row-back
+  pub tree-back : treeOf (stored L t) ≡ t
+  unfolding treeOf stored encode
+  tree-back = tabulate-is blank t (rowAt (stored L t)) row-back

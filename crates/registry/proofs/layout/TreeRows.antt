@@ -8,8 +8,8 @@ use lib.ListN.{length, getD}
 use Rattle.buffer.specs.Map.{get}
 use Rattle.buffer.proofs.Maps.{Rising}
 use Rattle.registry.specs.Tree.{Edge}
-use Rattle.registry.specs.Store.{Store, usedIn, rowAt, tabulate, treeOf}
-use Rattle.registry.specs.layout.Rows.{childAt, IsRow, IsAbsent}
+use Rattle.registry.specs.Store.{Store, usedIn, edgeAt, rowAt, tabulate, treeOf}
+use Rattle.registry.specs.layout.Rows.{childAt, IsRow, AbsentAt}
 use Rattle.registry.proofs.soundness.Everys.{length-tabulate}
 use Rattle.registry.proofs.layout.MapRows.{KeysRise, rising-by-keys, get-at, get-place, Gap, get-gap}
 use Rattle.registry.proofs.layout.StoreBack.{blank}
@@ -31,43 +31,41 @@ module _ (s : Store) where
   pub tree-key : (r : ℕ) → r < usedIn s → getD (treeOf s) r blank .0 ≡ childAt (s .head) r
   tree-key r l = ap (λ (x : ℕ × Edge). x .0) (tree-row r l)
 
--- the store s has n rows in use
-module _ (s : Store) (n : ℕ) (held : n ≡ usedIn s) where
   abbrev pub ChildrenRise : Type 0
-  ChildrenRise = (j k : ℕ) → j < k → k < n → childAt (s .head) j < childAt (s .head) k
+  ChildrenRise = (j k : ℕ) → j < k → k < usedIn s → childAt (s .head) j < childAt (s .head) k
 
   children-keys : ChildrenRise → KeysRise blank (treeOf s)
   children-keys h j k l u =
-      let w : k < usedIn s = rw (length-tree s) at u in
-      rw (tree-key s j (omega arith), tree-key s k w) (h j k l (omega arith))
+      let w : k < usedIn s = rw length-tree at u in
+      rw (tree-key j (omega arith), tree-key k w) (h j k l (omega arith))
 
   keys-children : KeysRise blank (treeOf s) → ChildrenRise
   keys-children h j k l u =
-      rw (tree-key s j (omega arith), tree-key s k (omega arith)) at (h j k l (rw (length-tree s) (omega arith)))
+      rw (tree-key j (omega arith), tree-key k (omega arith)) at (h j k l (rw length-tree (omega arith)))
 
   pub tree-rises : ChildrenRise ↔ Rising (treeOf s)
   tree-rises = (λ h. rising-by-keys blank (treeOf s) .1 (children-keys h), λ r. keys-children (rising-by-keys blank (treeOf s) .0 r))
 
   -- what a search says
-  pub get-found : ChildrenRise → (f r : ℕ) → IsRow n (s .head) f r → get (treeOf s) f ≡ some (rowAt s r .1)
+  pub get-found : ChildrenRise → (f r : ℕ) → IsRow (s .head) f r → get (treeOf s) f ≡ some (edgeAt s r)
   get-found h f r found =
-      let l : r < usedIn s = omega (arith, found .used) in
-      get-at blank (treeOf s) (tree-rises .0 h) f r (rw (length-tree s) l) (tree-key s r l ∙ found .child)
-      ∙ ap {B = Option Edge} (λ (x : ℕ × Edge). some (x .1)) (tree-row s r l)
+      let l : r < usedIn s = found .used in
+      get-at blank (treeOf s) (tree-rises .0 h) f r (rw length-tree l) (tree-key r l ∙ found .child)
+      ∙ ap {B = Option Edge} (λ (x : ℕ × Edge). some (x .1)) (tree-row r l)
 
   -- a child has a row
-  pub row-of : (f : ℕ) (e : Edge) → get (treeOf s) f ≡ some e → (r : ℕ) × IsRow n (s .head) f r
+  pub row-of : (f : ℕ) (e : Edge) → get (treeOf s) f ≡ some e → (r : ℕ) × IsRow (s .head) f r
   row-of f e q =
       let z = get-place blank (treeOf s) f e q in
-      let l : z .0 < usedIn s = rw (length-tree s) at (z .1) in
-      (z .0, record { used = omega arith; child = sym (tree-key s (z .0) l) ∙ z .2 })
+      let l : z .0 < usedIn s = rw length-tree at (z .1) in
+      (z .0, record { used = l; child = sym (tree-key (z .0) l) ∙ z .2 })
 
-  pub gap-absent : (f k : ℕ) → IsAbsent n (s .head) f k → Gap blank (treeOf s) f k
+  pub gap-absent : (f k : ℕ) → AbsentAt (s .head) f k → Gap blank (treeOf s) f k
   gap-absent f k absent = record {
-    within = rw (length-tree s) (omega (arith, absent .used));
-    below = λ j l. rw (tree-key s j (omega (arith, absent .used))) (absent .below j l);
-    above = λ j p l. let w : j < usedIn s = rw (length-tree s) at l in rw (tree-key s j w) (absent .above j p (omega arith));
+    within = rw length-tree (absent .used);
+    below = λ j l. rw (tree-key j (omega (arith, absent .used))) (absent .below j l);
+    above = λ j p l. let w : j < usedIn s = rw length-tree at l in rw (tree-key j w) (absent .above j p w);
   }
 
-  pub get-absent : (f k : ℕ) → IsAbsent n (s .head) f k → get (treeOf s) f ≡ none
+  pub get-absent : (f k : ℕ) → AbsentAt (s .head) f k → get (treeOf s) f ≡ none
   get-absent f k absent = get-gap blank (treeOf s) f k (gap-absent f k absent)

@@ -47,21 +47,21 @@ module _ (i : ℕ) where
     serves : (p : Isometry) → r ≡ answer p → Here k m → Serving child k m r
     fails : r ≡ refusal 11 (hop child (range m)) → (Here k m → ⊥) → Serving child k m r
 
-  serving : (age : Option ℕ) (places child : ℕ) (k : Kind) (m : Samples) → instantsSound age places k m ≡ true → Serving child k m (served child k m i)
-  serving age places child Static m s =
-      let row = single-row age places m s in
+  serving : (age : Option ℕ) (capacity child : ℕ) (k : Kind) (m : Samples) → instantsSound age capacity k m ≡ true → Serving child k m (served child k m i)
+  serving age capacity child Static m s =
+      let row = single-row age capacity m s in
       serves (row .0) (ap (λ (l : Samples). served child Static l i) (row .1) ∙ served-static child (0, row .0) [] i) tt
-  serving age places child Dynamic m s =
-      let r = rising-is m .0 (row-rises age places Dynamic m s) in
+  serving age capacity child Dynamic m s =
+      let r = rising-is m .0 (row-rises age capacity Dynamic m s) in
       both (within (range m) i)
       (λ w. let found = served-inside child m i r w in serves (found .0) (found .1) (here-of m w))
       (λ w. fails (served-outside child m i r w) (λ k. false-true (sym w ∙ of-here m k)))
 
 -- ---- hops in order
 
-module _ (age : Option ℕ) (places i : ℕ) where
+module _ (age : Option ℕ) (capacity i : ℕ) where
   abbrev Sound : Hop → Type 0
-  Sound h = instantsSound age places (h .1 .kind) (h .1 .samples) ≡ true
+  Sound h = instantsSound age capacity (h .1 .kind) (h .1 .samples) ≡ true
 
   -- the first hop that does not serve the instant
   pub record Fails (h : Hop) (hs : List Hop) : Type 0 where
@@ -77,7 +77,7 @@ module _ (age : Option ℕ) (places i : ℕ) where
 
   folded : (below : Option Isometry) (hs : List Hop) → Every Sound hs → Folded hs (fold below hs i)
   folded below [] s = through below refl tt
-  folded below (h ∷ hs) s = by (λ p. folded (some (onto p below)) hs (s .1)) (serving i age places (h .0) (h .1 .kind) (h .1 .samples) (s .0))
+  folded below (h ∷ hs) s = by (λ p. folded (some (onto p below)) hs (s .1)) (serving i age capacity (h .0) (h .1 .kind) (h .1 .samples) (s .0))
     where
       next : (p : Isometry) → served (h .0) (h .1 .kind) (h .1 .samples) i ≡ answer p → Inside i h → Folded hs (fold (some (onto p below)) hs i)
           → Folded (h ∷ hs) (fold below (h ∷ hs) i)
@@ -157,8 +157,8 @@ abbrev pub alongLast : Option Isometry → Option Isometry → Reply Value
 alongLast x y = joined x y then λ p. answer (pose p)
 
 module _ (L : Limits) (t : Tree) (s : SoundTree L t) (f g : ℕ) (k : TwoKnown t f g) (i : ℕ) where
-  hops-sound : (xs : List ℕ) → Every (Sound (L .age) (L .places) i) (hops t xs)
-  hops-sound xs = hops-pass (λ x. instantsSound (L .age) (L .places) (x .1 .kind) (x .1 .samples)) t (s .rises) (s .instants) xs
+  hops-sound : (xs : List ℕ) → Every (Sound (L .age) (L .capacity) i) (hops t xs)
+  hops-sound xs = hops-pass (λ x. instantsSound (L .age) (L .capacity) (x .1 .kind) (x .1 .samples)) t (s .rises) (s .instants) xs
 
   lookup-along : connected t f g ≡ true → lookup t f g i ≡ lookupAlong i (hops t (side t f g)) (hops t (side t g f))
   unfolding lookup ask
@@ -168,15 +168,15 @@ module _ (L : Limits) (t : Tree) (s : SoundTree L t) (f g : ℕ) (k : TwoKnown t
   unfolding lookup ask
   lookup-apart m = rw (ne-eqb f g (k .unlike), k .target, k .source, m)
 
-  pub on-path : connected t f g ≡ true → Walked (L .age) (L .places) i (hops t (side t f g)) (hops t (side t g f)) alongLast (lookup t f g i)
+  pub on-path : connected t f g ≡ true → Walked (L .age) (L .capacity) i (hops t (side t f g)) (hops t (side t g f)) alongLast (lookup t f g i)
   on-path m =
       rw (lookup-along m)
-      (walked (L .age) (L .places) i (hops t (side t f g)) (hops t (side t g f)) alongLast (hops-sound (side t f g)) (hops-sound (side t g f)))
+      (walked (L .age) (L .capacity) i (hops t (side t f g)) (hops t (side t g f)) alongLast (hops-sound (side t f g)) (hops-sound (side t g f)))
 
-  pub off-path : connected t f g ≡ false → Walked (L .age) (L .places) i (hops t (chain t f)) (hops t (chain t g)) (λ x y. refusal 10 nothing) (lookup t f g i)
+  pub off-path : connected t f g ≡ false → Walked (L .age) (L .capacity) i (hops t (chain t f)) (hops t (chain t g)) (λ x y. refusal 10 nothing) (lookup t f g i)
   off-path m =
       rw (lookup-apart m)
-      (walked (L .age) (L .places) i (hops t (chain t f)) (hops t (chain t g)) (λ x y. refusal 10 nothing) (hops-sound (chain t f)) (hops-sound (chain t g)))
+      (walked (L .age) (L .capacity) i (hops t (chain t f)) (hops t (chain t g)) (λ x y. refusal 10 nothing) (hops-sound (chain t f)) (hops-sound (chain t g)))
 
 pub lookupNotServed : LookupNotServed
 unfolding asked path
@@ -184,26 +184,26 @@ lookupNotServed L t s f g k i c =
     both (connected t f g)
     (λ m.
     rw m
-    (eleven (L .age) (L .places) i (hops t (side t f g)) (hops t (side t g f)) alongLast (lookup t f g i)
+    (eleven (L .age) (L .capacity) i (hops t (side t f g)) (hops t (side t g f)) alongLast (lookup t f g i)
     (posed-joined (other 11) refl refl refl) (on-path L t s f g k i m) c))
     (λ m.
     rw m
-    (eleven (L .age) (L .places) i (hops t (chain t f)) (hops t (chain t g)) (λ x y. refusal 10 nothing) (lookup t f g i)
+    (eleven (L .age) (L .capacity) i (hops t (chain t f)) (hops t (chain t g)) (λ x y. refusal 10 nothing) (lookup t f g i)
     (λ x y. refused refl) (off-path L t s f g k i m) c))
 
 eleven-ten : {r : Reply Value} {c d : Carried} → r ≡ refusal 11 c → r ≡ refusal 10 d → ⊥
 eleven-ten p q = let z : _≡_ {A = ℕ} 11 10 = cc in omega arith
 
-module _ (age : Option ℕ) (places i : ℕ) (a b : List Hop) (r : Reply Value) (c : Carried) where
-  connected-ten : Walked age places i a b alongLast r → r ≡ refusal 10 c → ⊥
+module _ (age : Option ℕ) (capacity i : ℕ) (a b : List Hop) (r : Reply Value) (c : Carried) where
+  connected-ten : Walked age capacity i a b alongLast r → r ≡ refusal 10 c → ⊥
   connected-ten (arrives x y q e k) z = never (posed-joined (other 10) refl refl refl x y) (sym e ∙ z)
   connected-ten (halts h e f) z = eleven-ten e z
 
-  ten : Walked age places i a b (λ x y. refusal 10 nothing) r → (r ≡ refusal 10 c) ↔ ((c ≡ nothing) × Every (Inside i) (a ++ b))
+  ten : Walked age capacity i a b (λ x y. refusal 10 nothing) r → (r ≡ refusal 10 c) ↔ ((c ≡ nothing) × Every (Inside i) (a ++ b))
   ten (arrives x y q e k) = (λ z. ((cc), k), λ z. e ∙ ap (refusal 10) (sym (z .0)))
   ten (halts h e f) = (
     λ z. absurd (eleven-ten e z),
-    λ z. absurd (not-both age places i a b (λ x y. refusal 10 nothing) r h (z .1) f),
+    λ z. absurd (not-both age capacity i a b (λ x y. refusal 10 nothing) r h (z .1) f),
   )
 
 pub lookupDisconnected : LookupDisconnected
@@ -211,9 +211,9 @@ unfolding asked
 lookupDisconnected L t s f g k i c =
     both (connected t f g)
     (λ m. (
-      λ z. absurd (connected-ten (L .age) (L .places) i (hops t (side t f g)) (hops t (side t g f)) (lookup t f g i) c (on-path L t s f g k i m) z),
+      λ z. absurd (connected-ten (L .age) (L .capacity) i (hops t (side t f g)) (hops t (side t g f)) (lookup t f g i) c (on-path L t s f g k i m) z),
       λ z. absurd (false-true (sym (z .1) ∙ m)),
     ))
     (λ m.
-    let law = ten (L .age) (L .places) i (hops t (chain t f)) (hops t (chain t g)) (lookup t f g i) c (off-path L t s f g k i m) in
+    let law = ten (L .age) (L .capacity) i (hops t (chain t f)) (hops t (chain t g)) (lookup t f g i) c (off-path L t s f g k i m) in
     rw m (λ z. let w = law .0 z in (w .0, refl, w .1), λ z. law .1 (z .0, z .2)))

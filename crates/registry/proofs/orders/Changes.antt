@@ -19,9 +19,9 @@ use Rattle.geometry.specs.Order.{poseDue}
 use Rattle.geometry.proofs.Order.{refuse-due, refuse-then-due}
 use Rattle.buffer.specs.Map.{get}
 use Rattle.buffer.proofs.Cases.{both}
-use Rattle.registry.specs.Tree.{Edge, Tree, Limits, Addition, kindOf, isNew, ancestors, member, otherParent, thatParent, otherKind, grown, add, wiped, wipe}
-use Rattle.registry.specs.Store.{Store, treeOf, limitsOf, sizesFit}
-use Rattle.registry.specs.Calls.{onTree, written, openOf, addOf, wipeOf}
+use Rattle.registry.specs.Tree.{Edge, Tree, Limits, Addition, kindOf, isAbsent, ancestors, member, otherParent, currentParent, otherKind, updatedEdge, add, wiped, wipe}
+use Rattle.registry.specs.Store.{Store, limitsOf, treeOf, sizesFit}
+use Rattle.registry.specs.Calls.{written, openOf, onTree, addOf, wipeOf}
 use Rattle.registry.specs.Order.{openDue, OpenFirstDue, addOrder, addDue, AddFirstDue, wipeOrder, wipeDue, WipeFirstDue}
 use Rattle.registry.proofs.layout.TreeRows.{length-tree}
 use Rattle.registry.proofs.soundness.Rules.{sound-is}
@@ -36,7 +36,7 @@ written-refused s L (refusal k c) = refl
 
 pub openFirstDue : OpenFirstDue
 unfolding openOf openDue
-openFirstDue s L = both (sizesFit (L .rows) (L .places) s) (λ e. rw e) (λ e. rw e)
+openFirstDue s L = both (sizesFit (L .rows) (L .capacity) s) (λ e. rw e) (λ e. rw e)
 
 -- ---- addition
 
@@ -61,13 +61,13 @@ unfolding add addDue
 add-due L t a few =
     let held = get t (a .child) in
     rw (full-is (length t) (L .rows) few)
-    (refuse-due (isNew held && member (a .child) (ancestors t (a .parent))) 7 nothing _ _
+    (refuse-due (isAbsent held && member (a .child) (ancestors t (a .parent))) 7 nothing _ _
     (pose-due (a .pose) _ _
     (refuse-due (eqb (a .parent) (a .child)) 5 nothing _ _
-    (refuse-due (otherParent held (a .parent)) 6 (thatParent held) _ _
+    (refuse-due (otherParent held (a .parent)) 6 (currentParent held) _ _
     (refuse-due (otherKind held (kindOf (a .stamp))) 8 nothing _ _
-    (refuse-due (isNew held && eqb (length t) (L .rows)) 16 nothing _ _
-    (refuse-due (ltb (L .places) (length (grown (L .age) a held .samples))) 17 nothing _ none refl)))))))
+    (refuse-due (isAbsent held && eqb (length t) (L .rows)) 16 nothing _ _
+    (refuse-due (ltb (L .capacity) (length (updatedEdge (L .age) a held .samples))) 17 nothing _ none refl)))))))
 
 pub addFirstDue : AddFirstDue
 unfolding addOf limitsOf
@@ -82,7 +82,7 @@ wipe-due : (t : Tree) (f i : ℕ) → refused (wipe t f i) ≡ firstDue (wipeDue
 unfolding wipe wipeDue
 wipe-due t f i = by (get t f)
   where
-    by : (held : Option Edge) → refused (wiped f i t held) ≡ dueOr 9 (when (isNew held) (frame f)) none
+    by : (held : Option Edge) → refused (wiped f i t held) ≡ dueOr 9 (when (isAbsent held) (frame f)) none
     by none = refl
     by (some e) = refl
 

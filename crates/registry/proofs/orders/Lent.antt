@@ -8,11 +8,10 @@ use Rattle.time.specs.Reply.{Carried, Reply, nothing}
 use Rattle.time.specs.Order.{Dues, when, dueOr, firstDue, refused}
 use Rattle.buffer.proofs.Cases.{both}
 use Rattle.registry.specs.Tree.{Tree, Limits}
-use Rattle.registry.specs.Store.{Store, treeOf, limitsOf, sized}
-use Rattle.registry.specs.Sound.{sound}
+use Rattle.registry.specs.Store.{Store, limitsOf, treeOf, sized}
+use Rattle.registry.specs.Sound.{sound, SoundStore}
 use Rattle.registry.specs.Calls.{onTree}
 use Rattle.registry.specs.Order.{lent, lentDue}
-use Rattle.registry.specs.soundness.Checks.{SoundStore}
 
 module _ {A : Type 0} (s : Store) (call : Limits → Tree → Reply A) where
   -- 1, else 2, else what the call on the tree of a sound store is refused with

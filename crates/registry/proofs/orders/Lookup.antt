@@ -15,7 +15,7 @@ use Rattle.buffer.specs.Samples.{range}
 use Rattle.buffer.proofs.Cases.{both}
 use Rattle.registry.specs.Tree.{Tree, Limits}
 use Rattle.registry.specs.Answers.{Value, pose}
-use Rattle.registry.specs.Store.{treeOf, limitsOf}
+use Rattle.registry.specs.Store.{limitsOf, treeOf}
 use Rattle.registry.specs.Path.{Hop, chain, hops, side, connected, known, ask, fold, lookup}
 use Rattle.registry.specs.Laws.{SoundTree}
 use Rattle.registry.specs.PathLaws.{path, asked, cover, Every, Inside, TwoKnown}
@@ -23,7 +23,7 @@ use Rattle.registry.specs.Calls.{lookupOf}
 use Rattle.registry.specs.Order.{lookupOrder, covers, notServedDue, inverseOf, lookupDue, LookupFirstDue}
 use Rattle.registry.proofs.layout.SizeLaws.{sized-is}
 use Rattle.registry.proofs.soundness.Rules.{sound-is}
-use Rattle.registry.proofs.soundness.SoundIsEncoded.{sound-tree}
+use Rattle.registry.proofs.layout.SoundIsStored.{sound-tree}
 use Rattle.registry.proofs.lookup.NotServed.{Fails, Walked, arrives, halts, alongLast, on-path, off-path}
 use Rattle.registry.proofs.orders.Lent.{lent-due}
 use Rattle.registry.proofs.orders.FirstHops.{covers-inside, outside-covers, first-none, first-placed}
@@ -52,19 +52,19 @@ join-due (some x) (some y) =
 
 -- ---- two walks
 
-module _ (age : Option ℕ) (places i : ℕ) where
-  fails-due : (h : Hop) (hs : List Hop) → Fails age places i h hs → notServedDue hs i ≡ some (hop (h .0) (range (h .1 .samples)))
+module _ (age : Option ℕ) (capacity i : ℕ) where
+  fails-due : (h : Hop) (hs : List Hop) → Fails age capacity i h hs → notServedDue hs i ≡ some (hop (h .0) (range (h .1 .samples)))
   fails-due h hs k =
       first-placed (λ c. not (covers c i)) (Inside i) (free i) (λ x. Unit {0}) h hs (k .placed) (rw (outside-covers i (cover h) (k .outside)))
 
   -- without a path: 11, then 10, whatever is due of later numbers
-  apart-due : (a b : List Hop) (r : Reply Value) (rest : Dues) → Walked age places i a b (λ x y. refusal 10 nothing) r
+  apart-due : (a b : List Hop) (r : Reply Value) (rest : Dues) → Walked age capacity i a b (λ x y. refusal 10 nothing) r
       → refused r ≡ firstDue ((9, none) ∷ (10, some nothing) ∷ (11, notServedDue (a ++ b) i) ∷ rest) lookupOrder
   apart-due a b r rest (arrives x y q e k) = rw (e, none-due i (a ++ b) k)
   apart-due a b r rest (halts h e k) = rw (e, fails-due h (a ++ b) k)
 
   -- on a path: 11, then those of the inverse
-  along-due : (a b : List Hop) (r : Reply Value) → Walked age places i a b alongLast r
+  along-due : (a b : List Hop) (r : Reply Value) → Walked age capacity i a b alongLast r
       → refused r ≡ firstDue ((9, none) ∷ (10, none) ∷ (11, notServedDue (a ++ b) i) ∷ inverseOf (fold none a i)) lookupOrder
   along-due a b r (arrives x y q e k) = rw (e, q, none-due i (a ++ b) k) (join-due x y)
   along-due a b r (halts h e k) = rw (e, fails-due h (a ++ b) k)
@@ -79,10 +79,10 @@ module _ (L : Limits) (t : Tree) (s : SoundTree L t) (f g i : ℕ) where
       both (connected t f g)
       (λ m.
       rw (n, p, q, m)
-      (along-due (L .age) (L .places) i (hops t (side t f g)) (hops t (side t g f)) (lookup t f g i) (on-path L t s f g two i m)))
+      (along-due (L .age) (L .capacity) i (hops t (side t f g)) (hops t (side t g f)) (lookup t f g i) (on-path L t s f g two i m)))
       (λ m.
       rw (n, p, q, m)
-      (apart-due (L .age) (L .places) i (hops t (chain t f)) (hops t (chain t g)) (lookup t f g i) (inverseOf (fold none (hops t (side t f g)) i))
+      (apart-due (L .age) (L .capacity) i (hops t (chain t f)) (hops t (chain t g)) (lookup t f g i) (inverseOf (fold none (hops t (side t f g)) i))
       (off-path L t s f g two i m)))
 
   tree-due : refused (lookup t f g i) ≡ firstDue (lookupDue t f g i) lookupOrder

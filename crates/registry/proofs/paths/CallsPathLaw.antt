@@ -5,12 +5,11 @@ use mathlib.Core.Bool.{not}
 use borrow.Author.Tests.{not-false}
 use Rattle.time.specs.Reply.{Reply, answer, nothing}
 use Rattle.registry.specs.Tree.{Tree, Limits, add, wipe}
-use Rattle.registry.specs.Store.{Store, encode, treeOf, limitsOf, sized}
-use Rattle.registry.specs.Sound.{sound}
+use Rattle.registry.specs.Store.{Store, limitsOf, treeOf, stored, sized}
+use Rattle.registry.specs.Sound.{sound, SoundStore}
 use Rattle.registry.specs.Answers.{done}
 use Rattle.registry.specs.Calls.{onTree, addOf, wipeOf, lookupOf, commonTimeOf}
-use Rattle.registry.specs.declared.soundness.check.Checked.the-variants.{Sound}
-use Rattle.registry.specs.soundness.Checks.{SoundStore}
+use Rattle.registry.specs.declared.check.Checked.the-variants.{Sound}
 use Rattle.registry.specs.History.{isAnswer}
 use Rattle.registry.specs.Laws.{InRange, SoundTree}
 use Rattle.registry.specs.Path.{lookup, commonTime}
@@ -21,8 +20,8 @@ use Rattle.registry.proofs.layout.StoreBack.{tree-back}
 use Rattle.registry.proofs.soundness.SoundEdges.{sound-fits}
 use Rattle.registry.proofs.layout.SizeLaws.{sized-is}
 use Rattle.registry.proofs.soundness.Rules.{sound-is}
-use Rattle.registry.proofs.soundness.SoundIsEncoded.{sound-tree}
-use Rattle.registry.proofs.soundness.EncodedIsSound.{encodedIsSound}
+use Rattle.registry.proofs.layout.SoundIsStored.{sound-tree}
+use Rattle.registry.proofs.layout.StoredIsSound.{storedIsSound}
 use Rattle.registry.proofs.soundness.Called.{finds-sound, called}
 use Rattle.registry.proofs.soundness.AddKeepsSound.{addKeepsSound}
 use Rattle.registry.proofs.soundness.WipeKeepsSound.{wipeKeepsSound}
@@ -38,7 +37,7 @@ answered-sound s call v e =
 
 -- the store's tree
 module _ (s : Store) (h : SoundStore s) where
-  range : InRange (limitsOf s .rows) (limitsOf s .places)
+  range : InRange (limitsOf s .rows) (limitsOf s .capacity)
   unfolding limitsOf
   range = sized-is s .0 (h .sizes) .range
 
@@ -46,18 +45,18 @@ module _ (s : Store) (h : SoundStore s) where
   tree = sound-tree s (sized-is s .0 (h .sizes)) (sound-is s .0 (h .rules))
 
   -- a question of the words of a sound tree
-  asked-encoded : {A : Type 0} (u : Tree) → SoundTree (limitsOf s) u → (ask : Tree → Reply A) → onTree (encode (limitsOf s) u) (λ L t. ask t) ≡ ask u
-  asked-encoded u k ask =
+  asked-stored : {A : Type 0} (u : Tree) → SoundTree (limitsOf s) u → (ask : Tree → Reply A) → onTree (stored (limitsOf s) u) (λ L t. ask t) ≡ ask u
+  asked-stored u k ask =
       let L = limitsOf s in
-      let e = encodedIsSound L u range k in
-      sym (called (encode L u) Sound (finds-sound (encode L u) (record { sizes = e .0; rules = e .1 })) (λ L t. ask t))
-      ∙ ap ask (tree-back L u (sound-fits L u (range .somePlaces) k))
+      let e = storedIsSound L u range k in
+      sym (called (stored L u) Sound (finds-sound (stored L u) (record { sizes = e .0; rules = e .1 })) (λ L t. ask t))
+      ∙ ap ask (tree-back L u (sound-fits L u (range .positiveCapacity) k))
 
-  same-replies : (u : Tree) → SoundTree (limitsOf s) u → (f g : ℕ) → SameAnswers (treeOf s) u f g → SameReplies s (encode (limitsOf s) u) f g
+  same-replies : (u : Tree) → SoundTree (limitsOf s) u → (f g : ℕ) → SameAnswers (treeOf s) u f g → SameReplies s (stored (limitsOf s) u) f g
   unfolding lookupOf commonTimeOf
   same-replies u k f g same = record {
-    lookups = λ i. asked-encoded u k (λ t. lookup t f g i) ∙ same .lookups i ∙ called s Sound (finds-sound s h) (λ L t. lookup t f g i);
-    commonTimes = asked-encoded u k (λ t. commonTime t f g) ∙ same .commonTimes ∙ called s Sound (finds-sound s h) (λ L t. commonTime t f g);
+    lookups = λ i. asked-stored u k (λ t. lookup t f g i) ∙ same .lookups i ∙ called s Sound (finds-sound s h) (λ L t. lookup t f g i);
+    commonTimes = asked-stored u k (λ t. commonTime t f g) ∙ same .commonTimes ∙ called s Sound (finds-sound s h) (λ L t. commonTime t f g);
   }
 
 -- a call that is answered with done leaves the words of the tree that it answers
@@ -65,7 +64,7 @@ pub record Done (s : Store) (call : Limits → Tree → Reply Tree) : Type 0 whe
   pub tree : Tree
   pub held : SoundStore s
   pub answers : call (limitsOf s) (treeOf s) ≡ answer tree
-  pub left : writtenTo s call .store ≡ encode (limitsOf s) tree
+  pub left : writtenTo s call .store ≡ stored (limitsOf s) tree
 
 call-done : (s : Store) (call : Limits → Tree → Reply Tree) → writtenTo s call .reply ≡ answer done → Done s call
 call-done s call e =

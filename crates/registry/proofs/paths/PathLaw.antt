@@ -11,7 +11,7 @@ use Rattle.geometry.specs.Isometry.{identity}
 use Rattle.buffer.specs.Map.{get, put}
 use Rattle.buffer.proofs.Cases.{both, none-some, false-true}
 use Rattle.buffer.proofs.Maps.{Rising, rising-is, get-put-other}
-use Rattle.registry.specs.Tree.{Edge, Tree, member, grown}
+use Rattle.registry.specs.Tree.{Edge, Tree, member, updatedEdge}
 use Rattle.registry.specs.Answers.{Value, pose, static}
 use Rattle.registry.specs.Path.{chain, until, any, Hop, hopThen, hops, side, connected, ask, lookupAlong, lookupApart, lookup, spans, meet, commonTime}
 use Rattle.registry.specs.PathLaws.{path, Every, OffPath, SameAnswers, PathLaw, PathLawWipe}
@@ -122,11 +122,11 @@ pathLaw L t u a r n e f g m off =
     let acc = add-accepted L t a u e in
     rw (acc .left) (by (get t (a .child)) refl acc)
   where
-    by : (held : Option Edge) → get t (a .child) ≡ held → Accepted L t a held u → SameAnswers t (put (a .child) (grown (L .age) a held) t) f g
+    by : (held : Option Edge) → get t (a .child) ≡ held → Accepted L t a held u → SameAnswers t (put (a .child) (updatedEdge (L .age) a held) t) f g
     by none q acc =
-        answers-new t (a .child) (grown (L .age) a none) f g m (circle-grounded t (rising-is t .0 r) n) q
+        answers-new t (a .child) (updatedEdge (L .age) a none) f g m (circle-grounded t (rising-is t .0 r) n) q
         (rw (ne-eqb (a .child) (a .parent) (λ s. eqb-false (a .parent) (a .child) (acc .apart) (sym s))) (acc .noCircle))
-    by (some h) q acc = answers-held t (a .child) (grown (L .age) a (some h)) f g m h (rising-is t .0 r) q refl off
+    by (some h) q acc = answers-held t (a .child) (updatedEdge (L .age) a (some h)) f g m h (rising-is t .0 r) q refl off
 
 pub pathLawWipe : PathLawWipe
 pathLawWipe t u c i r e f g m off =

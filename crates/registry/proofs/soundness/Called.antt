@@ -8,12 +8,11 @@ use Rattle.time.specs.Reply.{Reply, answer, refusal, nothing, refuse, _then_}
 use Rattle.buffer.proofs.Cases.{and-left, and-right}
 use Rattle.registry.specs.Tree.{Tree, Limits}
 use Rattle.registry.specs.Store.{Store, limitsOf, treeOf, sized}
-use Rattle.registry.specs.Sound.{sound}
-use Rattle.registry.specs.Calls.{onTree, written}
-use Rattle.registry.specs.declared.soundness.check.Checked.{Checked}
-use Rattle.registry.specs.declared.soundness.check.Checked.the-variants.{Sizes, UnsoundStore, Sound}
-use Rattle.registry.specs.soundness.Checks.{SoundStore, checkedReply}
-use Rattle.registry.proofs.soundness.check.Checked.{the-type}
+use Rattle.registry.specs.Sound.{sound, SoundStore}
+use Rattle.registry.specs.Calls.{written, onTree, checkedReply}
+use Rattle.registry.specs.declared.check.Checked.{Checked}
+use Rattle.registry.specs.declared.check.Checked.the-variants.{Sizes, UnsoundStore, Sound}
+use Rattle.registry.proofs.check.Checked.{the-type}
 
 -- the tests of the store find k
 abbrev pub TestsFind : Store → Checked → Type 0

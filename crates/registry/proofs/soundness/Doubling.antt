@@ -16,11 +16,11 @@ use Rattle.buffer.proofs.Cases.{both, none-some, false-true, bool-ext}
 use Rattle.buffer.proofs.Maps.{Rising}
 use Rattle.buffer.proofs.Alls.{all-at}
 use Rattle.registry.specs.Tree.{Edge, Tree, above, member}
-use Rattle.registry.specs.Store.{rowWord, rowAt, treeOf}
+use Rattle.registry.specs.Store.{usedIn, parentIn, rowAt, treeOf}
 use Rattle.registry.specs.Sound.{climb, noCircle, NotAboveItself}
 use Rattle.registry.specs.Calls.{storeOf}
-use Rattle.registry.specs.layout.Rows.{headOf, childAt, RisingRows, IsRow, IsAbsent}
-use Rattle.registry.specs.soundness.Climbs.{IsUp, Climbed, onward, moveOn, movedOn}
+use Rattle.registry.specs.layout.Rows.{headOf, childAt, RisingRows, IsRow, AbsentAt}
+use Rattle.registry.specs.soundness.Climbs.{IsUp, Climbed, jump, jumpAt, jumped}
 use Rattle.registry.proofs.paths.Climbing.{edge-or, climb-none, climb-more, apart-grounded}
 use Rattle.registry.proofs.soundness.NoCircle.{circle-grounded, grounded-circle}
 use Rattle.registry.proofs.layout.TreeRows.{length-tree, tree-rises, get-found, row-of, get-absent}
@@ -86,14 +86,14 @@ module _ (t : Tree) where
 
 -- ---- from one row
 
-module _ (n : ℕ) (h : List ℕ) where
-  module _ (rows : RisingRows n h) (r : ℕ) (l : r < n) where
-    one-step : (i : List ℕ) (p : List Float) → climb 1 (treeOf (storeOf h i p)) (childAt h r) ≡ rowWord (headOf h) r 1
+module _ (h : List ℕ) where
+  module _ (rows : RisingRows h) (r : ℕ) (l : r < usedIn (headOf h)) where
+    one-step : (i : List ℕ) (p : List Float) → climb 1 (treeOf (storeOf h i p)) (childAt h r) ≡ parentIn (headOf h) r
     one-step i p =
         let s = storeOf h i p in
-        climb-up (treeOf s) 0 (childAt h r) (rowAt s r .1) (get-found s n (rows .rows .held) (rows .rises) (childAt h r) r (record { used = l; child = refl }))
+        climb-up (treeOf s) 0 (childAt h r) (rowAt s r .1) (get-found s (rows .rises) (childAt h r) r (record { used = l; child = refl }))
 
-    pub up-row : (x : ℕ) → IsRow n h (rowWord (headOf h) r 1) x → IsUp n h 1 r x
+    pub up-row : (x : ℕ) → IsRow h (parentIn (headOf h) r) x → IsUp h 1 r x
     up-row x found = record {
       steps = 1;
       enough = omega arith;
@@ -101,16 +101,16 @@ module _ (n : ℕ) (h : List ℕ) where
       root = λ u i p. absurd (omega (arith, found .used));
     }
 
-    pub up-root : (k : ℕ) → IsAbsent n h (rowWord (headOf h) r 1) k → IsUp n h 1 r n
+    pub up-root : (k : ℕ) → AbsentAt h (parentIn (headOf h) r) k → IsUp h 1 r (usedIn (headOf h))
     up-root k absent = record {
       steps = 1;
       enough = omega arith;
       row = λ u i p. absurd (omega arith);
-      root = λ u i p. let s = storeOf h i p in ap (get (treeOf s)) (one-step i p) ∙ get-absent s n (rows .rows .held) (rowWord (headOf h) r 1) k absent;
+      root = λ u i p. let s = storeOf h i p in ap (get (treeOf s)) (one-step i p) ∙ get-absent s (parentIn (headOf h) r) k absent;
     }
 
   -- more steps, from the row that was come to
-  up-on : (m r x y : ℕ) → x < n → IsUp n h m r x → IsUp n h m x y → IsUp n h (m + m) r y
+  up-on : (m r x y : ℕ) → x < usedIn (headOf h) → IsUp h m r x → IsUp h m x y → IsUp h (m + m) r y
   up-on m r x y l a b =
       let joined : (i : List ℕ) (p : List Float) → climb (a .steps + b .steps) (treeOf (storeOf h i p)) (childAt h r) ≡ climb (b .steps) (treeOf (storeOf h i p)) (childAt h x) =
       λ i p. let t : Tree = treeOf (storeOf h i p) in sym (climb-add t (a .steps) (b .steps) (childAt h r)) ∙ ap (climb (b .steps) t) (sym (a .row l i p)) in
@@ -122,7 +122,7 @@ module _ (n : ℕ) (h : List ℕ) where
       }
 
   -- more steps, where the climb has ended
-  up-stay : (m r x : ℕ) → n ≤ x → IsUp n h m r x → IsUp n h (m + m) r x
+  up-stay : (m r x : ℕ) → usedIn (headOf h) ≤ x → IsUp h m r x → IsUp h (m + m) r x
   up-stay m r x l a = record {
     steps = a .steps + m;
     enough = omega (arith, a .enough);
@@ -130,7 +130,7 @@ module _ (n : ℕ) (h : List ℕ) where
     root = λ u i p. climb-past (treeOf (storeOf h i p)) (a .steps) (a .steps + m) (childAt h r) (omega arith) (a .root l i p);
   }
 
-  up-less : (m r x : ℕ) → IsUp n h (m + m) r x → IsUp n h m r x
+  up-less : (m r x : ℕ) → IsUp h (m + m) r x → IsUp h m r x
   up-less m r x a = record { steps = a .steps; enough = omega (arith, a .enough); row = a .row; root = a .root }
 
 -- ---- from all rows
@@ -145,37 +145,37 @@ at-set P l k y r u here there =
     (λ e. subst (P r) (sym (getD-set-other l k r y 0 (eqb-false r k e))) (there (eqb-false r k e)))
 
 -- the first k entries have gone at least twice as far
-record Partly (n : ℕ) (h : List ℕ) (m k : ℕ) (l : List ℕ) : Type 0 where
-  size : length l ≡ n
-  twice : (r : ℕ) → r < k → r < n → IsUp n h (m + m) r (getD l r 0)
-  once : (r : ℕ) → r < n → IsUp n h m r (getD l r 0)
+record Partly (h : List ℕ) (m k : ℕ) (l : List ℕ) : Type 0 where
+  size : length l ≡ usedIn (headOf h)
+  twice : (r : ℕ) → r < k → r < usedIn (headOf h) → IsUp h (m + m) r (getD l r 0)
+  once : (r : ℕ) → r < usedIn (headOf h) → IsUp h m r (getD l r 0)
 
-module _ (n : ℕ) (h : List ℕ) (m : ℕ) where
+module _ (h : List ℕ) (m : ℕ) where
   -- entry k goes on
-  far : (k : ℕ) (l : List ℕ) → k < n → Partly n h m k l → IsUp n h (m + m) k (onward l (getD l k 0))
+  far : (k : ℕ) (l : List ℕ) → k < usedIn (headOf h) → Partly h m k l → IsUp h (m + m) k (jump l (getD l k 0))
   far k l u a =
       let x : ℕ = getD l k 0 in
       both (ltb x (length l))
-      (λ e. rw e (up-on n h m k x (getD l x 0) (omega (arith, ltb-true x (length l) e, a .size)) (a .once k u) (a .once x (omega (arith, ltb-true x (length l) e, a .size)))))
-      (λ e. rw e (up-stay n h m k x (omega (arith, ltb-false x (length l) e, a .size)) (a .once k u)))
+      (λ e. rw e (up-on h m k x (getD l x 0) (omega (arith, ltb-true x (length l) e, a .size)) (a .once k u) (a .once x (omega (arith, ltb-true x (length l) e, a .size)))))
+      (λ e. rw e (up-stay h m k x (omega (arith, ltb-false x (length l) e, a .size)) (a .once k u)))
 
-  partly-more : (k : ℕ) (l : List ℕ) → k < n → Partly n h m k l → Partly n h m (suc k) (moveOn l k)
+  partly-more : (k : ℕ) (l : List ℕ) → k < usedIn (headOf h) → Partly h m k l → Partly h m (suc k) (jumpAt l k)
   partly-more k l u a =
-      let y : ℕ = onward l (getD l k 0) in
+      let y : ℕ = jump l (getD l k 0) in
       let v : k < length l = omega (arith, a .size) in
-      let gone : IsUp n h (m + m) k y = far k l u a in
+      let gone : IsUp h (m + m) k y = far k l u a in
       record {
         size = length-set l k y ∙ a .size;
-        twice = λ r v₁ w. at-set (λ (r x : ℕ). IsUp n h (m + m) r x) l k y r v gone (λ ne. a .twice r (omega arith) w);
-        once = λ r w. at-set (λ (r x : ℕ). IsUp n h m r x) l k y r v (up-less n h m k y gone) (λ ne. a .once r w);
+        twice = λ r v₁ w. at-set (λ (r x : ℕ). IsUp h (m + m) r x) l k y r v gone (λ ne. a .twice r (omega arith) w);
+        once = λ r w. at-set (λ (r x : ℕ). IsUp h m r x) l k y r v (up-less h m k y gone) (λ ne. a .once r w);
       }
 
-  partly-upto : (k : ℕ) (l : List ℕ) → k ≤ n → Climbed n h m l → Partly n h m k (movedOn k l)
+  partly-upto : (k : ℕ) (l : List ℕ) → k ≤ usedIn (headOf h) → Climbed h m l → Partly h m k (jumped k l)
   partly-upto zero l u a = record { size = a .size; twice = λ r v w. absurd (omega arith); once = a .up }
-  partly-upto (suc k) l u a = partly-more k (movedOn k l) u (partly-upto k l (omega arith) a)
+  partly-upto (suc k) l u a = partly-more k (jumped k l) u (partly-upto k l (omega arith) a)
 
   -- every entry goes on
-  pub climbed-twice : (l l′ : List ℕ) → l′ ≡ movedOn (length l) l → Climbed n h m l → Climbed n h (m * 2) l′
+  pub climbed-twice : (l l′ : List ℕ) → l′ ≡ jumped (length l) l → Climbed h m l → Climbed h (m * 2) l′
   climbed-twice l l′ e a =
       let b = partly-upto (length l) l (omega (arith, a .size)) a in
       let q : m + m ≡ m * 2 = omega arith in
@@ -183,12 +183,12 @@ module _ (n : ℕ) (h : List ℕ) (m : ℕ) where
 
 -- ---- the end
 
-module _ (n : ℕ) (h : List ℕ) (rows : RisingRows n h) (m : ℕ) (l : List ℕ) (a : Climbed n h m l) (enough : n ≤ m) (i : List ℕ) (p : List Float) where
+module _ (h : List ℕ) (rows : RisingRows h) (m : ℕ) (l : List ℕ) (a : Climbed h m l) (enough : usedIn (headOf h) ≤ m) (i : List ℕ) (p : List Float) where
   abbrev t : Tree
   t = treeOf (storeOf h i p)
 
   rises : Rising t
-  rises = tree-rises (storeOf h i p) n (rows .rows .held) .0 (rows .rises)
+  rises = tree-rises (storeOf h i p) .0 (rows .rises)
 
   -- every climb ends, so no frame is above itself
   ended-apart : all (leb (length l)) l ≡ true → NotAboveItself t
@@ -196,7 +196,7 @@ module _ (n : ℕ) (h : List ℕ) (rows : RisingRows n h) (m : ℕ) (l : List �
     where
       child : (d : Edge) → get t f ≡ some d → member f (above k t f) ≡ false
       child d q =
-          let found = row-of (storeOf h i p) n (rows .rows .held) f d q in
+          let found = row-of (storeOf h i p) f d q in
           let r : ℕ = found .0 in
           let past : length l ≤ getD l r 0 = leb-true _ _ (all-at (leb (length l)) l 0 .0 e r (omega (arith, a .size, found .1 .used))) in
           let up = a .up r (found .1 .used) in
@@ -210,10 +210,10 @@ module _ (n : ℕ) (h : List ℕ) (rows : RisingRows n h) (m : ℕ) (l : List �
       both (leb (length l) x)
       (λ q. q)
       (λ q.
-      let v : x < n = omega (arith, leb-false (length l) x q, a .size) in
-      let at-row : get t (childAt h x) ≡ some (rowAt (storeOf h i p) x .1) = get-found (storeOf h i p) n (rows .rows .held) (rows .rises) (childAt h x) x (record { used = v; child = refl }) in
+      let v : x < usedIn (headOf h) = omega (arith, leb-false (length l) x q, a .size) in
+      let at-row : get t (childAt h x) ≡ some (rowAt (storeOf h i p) x .1) = get-found (storeOf h i p) (rows .rises) (childAt h x) x (record { used = v; child = refl }) in
       let ended : get t (climb (up .steps) t (childAt h r)) ≡ none =
-      climb-past t (length t) (up .steps) (childAt h r) (omega (arith, length-tree (storeOf h i p), rows .rows .held, up .enough)) (circle-grounded t rises e (childAt h r)) in
+      climb-past t (length t) (up .steps) (childAt h r) (omega (arith, length-tree (storeOf h i p), up .enough)) (circle-grounded t rises e (childAt h r)) in
       absurd (none-some (sym ended ∙ ap (get t) (sym (up .row v i p)) ∙ at-row)))
 
   pub ended-is : all (leb (length l)) l ≡ noCircle t

@@ -13,7 +13,7 @@ use Rattle.buffer.proofs.Cases.{both, bool-ext, and-both}
 use Rattle.buffer.proofs.Maps.{rising-is}
 use Rattle.buffer.proofs.Alls.{all-at}
 use Rattle.registry.specs.Tree.{Edge}
-use Rattle.registry.specs.Store.{Store, rowsIn, usedIn, rowWord, rowAt, treeOf}
+use Rattle.registry.specs.Store.{Store, rowsIn, usedIn, flagIn, ageWordIn, childIn, parentIn, kindIn, rowAt, treeOf}
 use Rattle.registry.specs.Sound.{every, framesFit, parentsDiffer, noCircle}
 use Rattle.registry.specs.Calls.{storeOf}
 use Rattle.registry.specs.layout.Rows.{headOf, childAt, UsedRows, RisingRows}
@@ -36,22 +36,22 @@ neighbours-rise h n b j (suc k) l u =
     (λ e. rw (eqb-true j k e) step)
     (λ e. let ih = neighbours-rise h n b j k (let ne = eqb-false j k e in omega arith) (omega arith) in omega arith)
 
-module _ (h : List ℕ) (n : ℕ) (used : UsedRows n h) where
-  pub rise-fails : (r : ℕ) → 0 < r → r < n → childAt h r ≤ childAt h (r - 1) → (i : List ℕ) (p : List Float) → false ≡ rising (treeOf (storeOf h i p))
+module _ (h : List ℕ) where
+  pub rise-fails : (r : ℕ) → 0 < r → r < usedIn (headOf h) → childAt h r ≤ childAt h (r - 1) → (i : List ℕ) (p : List Float) → false ≡ rising (treeOf (storeOf h i p))
   rise-fails r z l u i p =
       let s = storeOf h i p in
       both (rising (treeOf s))
       (λ e.
-      let w = tree-rises s n (used .held) .1 (rising-is (treeOf s) .0 e) (r - 1) r (omega arith) l in
+      let w = tree-rises s .1 (rising-is (treeOf s) .0 e) (r - 1) r (omega arith) l in
       absurd (omega arith))
       (λ e. sym e)
 
-  pub rise-all : Neighbours h n → (i : List ℕ) (p : List Float) → true ≡ rising (treeOf (storeOf h i p))
-  rise-all b i p = let s = storeOf h i p in sym (rising-is (treeOf s) .1 (tree-rises s n (used .held) .0 (neighbours-rise h n b)))
+  pub rise-all : Neighbours h (usedIn (headOf h)) → (i : List ℕ) (p : List Float) → true ≡ rising (treeOf (storeOf h i p))
+  rise-all b i p = let s = storeOf h i p in sym (rising-is (treeOf s) .1 (tree-rises s .0 (neighbours-rise h (usedIn (headOf h)) b)))
 
   -- and back, for whoever tests the rows
-  pub rising-rows : (i : List ℕ) (p : List Float) → rising (treeOf (storeOf h i p)) ≡ true → RisingRows n h
-  rising-rows i p e = let s = storeOf h i p in record { rows = used; rises = tree-rises s n (used .held) .1 (rising-is (treeOf s) .0 e) }
+  pub rising-rows : UsedRows h → (i : List ℕ) (p : List Float) → rising (treeOf (storeOf h i p)) ≡ true → RisingRows h
+  rising-rows used i p e = let s = storeOf h i p in record { within = used; rises = tree-rises s .1 (rising-is (treeOf s) .0 e) }
 
 -- ---- a test of every row
 
@@ -75,11 +75,11 @@ every-and (suc n) p q = ap (λ b. b && (p n && q n)) (every-and n p q) ∙ swap 
     swap true true true d = refl
 
 -- what the code tests of each row is three clauses
-pub rows-fit-is : (s : Store) → every (usedIn s) (rowFits (s .head)) ≡ (framesFit (treeOf s) && parentsDiffer (treeOf s) && every (usedIn s) (λ r. leb (rowWord s r 2) 1))
+pub rows-fit-is : (s : Store) → every (usedIn s) (rowFits (s .head)) ≡ (framesFit (treeOf s) && parentsDiffer (treeOf s) && every (usedIn s) (λ r. leb (kindIn s r) 1))
 rows-fit-is s =
-    let frames : ℕ → Bool = λ r. ltb (rowWord s r 0) (2 ^ 32) && ltb (rowWord s r 1) (2 ^ 32) in
-    let parents : ℕ → Bool = λ r. not (eqb (rowWord s r 1) (rowWord s r 0)) in
-    let kinds : ℕ → Bool = λ r. leb (rowWord s r 2) 1 in
+    let frames : ℕ → Bool = λ r. ltb (childIn s r) (2 ^ 32) && ltb (parentIn s r) (2 ^ 32) in
+    let parents : ℕ → Bool = λ r. not (eqb (parentIn s r) (childIn s r)) in
+    let kinds : ℕ → Bool = λ r. leb (kindIn s r) 1 in
     every-and (usedIn s) (λ r. frames r && parents r) kinds
     ∙ ap (λ b. b && every (usedIn s) kinds)
     (every-and (usedIn s) frames parents
@@ -112,39 +112,39 @@ tests s = leb (usedIn s) (rowsIn s) && rising (treeOf s) && every (usedIn s) (ro
 pub head-sound-is : (s : Store) → tests s ≡ headSound s
 head-sound-is s =
     ap (λ b. leb (usedIn s) (rowsIn s) && rising (treeOf s) && b && ageNamed (s .head) && noCircle (treeOf s)) (rows-fit-is s)
-    ∙ regroup (leb (usedIn s) (rowsIn s)) (rising (treeOf s)) (framesFit (treeOf s)) (parentsDiffer (treeOf s)) (noCircle (treeOf s)) (ageNamed (s .head)) (every (usedIn s) (λ r. leb (rowWord s r 2) 1))
+    ∙ regroup (leb (usedIn s) (rowsIn s)) (rising (treeOf s)) (framesFit (treeOf s)) (parentsDiffer (treeOf s)) (noCircle (treeOf s)) (ageNamed (s .head)) (every (usedIn s) (λ r. leb (kindIn s r) 1))
 
 -- ---- the tests of one row, one by one
 
 module _ (h : List ℕ) (r : ℕ) where
-  pub child-wide : 4294967295 < rowWord (headOf h) r 0 → false ≡ rowFits h r
-  child-wide a = rw (le-ltb (rowWord (headOf h) r 0) (2 ^ 32) (omega arith))
+  pub child-wide : 4294967295 < childIn (headOf h) r → false ≡ rowFits h r
+  child-wide a = rw (le-ltb (childIn (headOf h) r) (2 ^ 32) (omega arith))
 
-  module _ (child : rowWord (headOf h) r 0 ≤ 4294967295) where
-    pub parent-wide : 4294967295 < rowWord (headOf h) r 1 → false ≡ rowFits h r
-    parent-wide a = rw (lt-ltb (rowWord (headOf h) r 0) (2 ^ 32) (omega arith), le-ltb (rowWord (headOf h) r 1) (2 ^ 32) (omega arith))
+  module _ (child : childIn (headOf h) r ≤ 4294967295) where
+    pub parent-wide : 4294967295 < parentIn (headOf h) r → false ≡ rowFits h r
+    parent-wide a = rw (lt-ltb (childIn (headOf h) r) (2 ^ 32) (omega arith), le-ltb (parentIn (headOf h) r) (2 ^ 32) (omega arith))
 
-    module _ (parent : rowWord (headOf h) r 1 ≤ 4294967295) where
-      frames : (ltb (rowWord (headOf h) r 0) (2 ^ 32) && ltb (rowWord (headOf h) r 1) (2 ^ 32)) ≡ true
-      frames = and-both _ _ (lt-ltb (rowWord (headOf h) r 0) (2 ^ 32) (omega arith)) (lt-ltb (rowWord (headOf h) r 1) (2 ^ 32) (omega arith))
+    module _ (parent : parentIn (headOf h) r ≤ 4294967295) where
+      frames : (ltb (childIn (headOf h) r) (2 ^ 32) && ltb (parentIn (headOf h) r) (2 ^ 32)) ≡ true
+      frames = and-both _ _ (lt-ltb (childIn (headOf h) r) (2 ^ 32) (omega arith)) (lt-ltb (parentIn (headOf h) r) (2 ^ 32) (omega arith))
 
-      pub own-parent : rowWord (headOf h) r 1 ≡ rowWord (headOf h) r 0 → false ≡ rowFits h r
-      own-parent e = rw (frames, eq-eqb (rowWord (headOf h) r 1) (rowWord (headOf h) r 0) e)
+      pub own-parent : parentIn (headOf h) r ≡ childIn (headOf h) r → false ≡ rowFits h r
+      own-parent e = rw (frames, eq-eqb (parentIn (headOf h) r) (childIn (headOf h) r) e)
 
-      pub kind-decides : (rowWord (headOf h) r 1 ≡ rowWord (headOf h) r 0 → ⊥) → leb (rowWord (headOf h) r 2) 1 ≡ rowFits h r
-      kind-decides e = rw (frames, ne-eqb (rowWord (headOf h) r 1) (rowWord (headOf h) r 0) e)
+      pub kind-decides : (parentIn (headOf h) r ≡ childIn (headOf h) r → ⊥) → leb (kindIn (headOf h) r) 1 ≡ rowFits h r
+      kind-decides e = rw (frames, ne-eqb (parentIn (headOf h) r) (childIn (headOf h) r) e)
 
 -- ---- the tests of the age
 
 module _ (h : List ℕ) where
-  pub flag-set : getD h 3 0 ≡ 1 → true ≡ ageNamed h
+  pub flag-set : flagIn (headOf h) ≡ 1 → true ≡ ageNamed h
   flag-set e = rw e
 
-  pub flag-clear : getD h 3 0 ≡ 0 → eqb (getD h 4 0) 0 ≡ ageNamed h
+  pub flag-clear : flagIn (headOf h) ≡ 0 → eqb (ageWordIn (headOf h)) 0 ≡ ageNamed h
   flag-clear e = rw e
 
-  pub flag-unnamed : (getD h 3 0 ≡ 1 → ⊥) → (getD h 3 0 ≡ 0 → ⊥) → false ≡ ageNamed h
-  flag-unnamed a b = rw (lt-leb (getD h 3 0) 1 (omega arith))
+  pub flag-unnamed : (flagIn (headOf h) ≡ 1 → ⊥) → (flagIn (headOf h) ≡ 0 → ⊥) → false ≡ ageNamed h
+  flag-unnamed a b = rw (lt-leb (flagIn (headOf h)) 1 (omega arith))
 
 -- ---- the tests of the whole head, one by one
 

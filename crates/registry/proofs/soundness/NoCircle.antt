@@ -8,20 +8,20 @@ use Rattle.buffer.specs.Map.{all, get}
 use Rattle.buffer.proofs.Cases.{bool-ext}
 use Rattle.buffer.proofs.Maps.{Rising, rising-is}
 use Rattle.buffer.proofs.Alls.{all-get}
-use Rattle.registry.specs.Tree.{Edge, Tree, isNew}
+use Rattle.registry.specs.Tree.{Edge, Tree, isAbsent}
 use Rattle.registry.specs.Sound as sound
-use Rattle.registry.specs.Sound.{climb}
+use Rattle.registry.specs.Sound.{climb, sound}
 use Rattle.registry.specs.Laws.{NoCircle}
 use Rattle.registry.proofs.paths.Climbing.{edge-or, Ends, Grounded, ends-ranked, climb-none, climb-more, ranked-apart, ranked-grounded, apart-grounded}
 
-is-new : (o : Option Edge) → isNew o ≡ true → o ≡ none
+is-new : (o : Option Edge) → isAbsent o ≡ true → o ≡ none
 is-new none h = refl
 is-new (some e) h = cc
 
 module _ (t : Tree) (r : Rising t) where
   -- the climb of n steps from the child of a row ends
   abbrev endsIn : ℕ → ℕ × Edge → Bool
-  endsIn n x = isNew (get t (climb n t (x .0)))
+  endsIn n x = isAbsent (get t (climb n t (x .0)))
 
   ends-of : (n : ℕ) → all (endsIn n) t ≡ true → Ends n t
   ends-of n h f =
@@ -40,7 +40,7 @@ module _ (t : Tree) (r : Rising t) where
   unfolding sound.noCircle
   grounded-circle g = of-ends (length t) g
 
-  pub climbs-decide : (n : ℕ) → length t ≤ n → all (λ x. isNew (get t (climb n t (x .0)))) t ≡ sound.noCircle t
+  pub climbs-decide : (n : ℕ) → length t ≤ n → all (λ x. isAbsent (get t (climb n t (x .0)))) t ≡ sound.noCircle t
   climbs-decide n l =
       bool-ext (all (endsIn n) t) (sound.noCircle t)
       (λ h. grounded-circle (ranked-grounded t _ (ends-ranked t n (ends-of n h))))

@@ -1,16 +1,15 @@
 -- What `sound` says of a store, clause by clause.
-use Prim.Native.Nat.{_+_, _*_, _≤_}
+use Prim.Native.Nat.{_≤_}
 use mathlib.Core.Path.{_≡_}
 use mathlib.Core.Logic.{_↔_}
 use mathlib.Core.Bool.{true, _||_}
 use lib.Dec.{eqb, leb}
-use lib.ListN.{getD, drop}
 use borrow.Author.Tests.{leb-true, le-leb}
 use Rattle.buffer.specs.Map.{all, rising}
-use Rattle.buffer.specs.Row.{isZero, rowSound}
+use Rattle.buffer.specs.Row.{isZero}
 use Rattle.buffer.proofs.Cases.{and-both}
-use Rattle.registry.specs.Store.{Store, rowsIn, placesIn, usedIn, ageIn, kindOfWord, rowWord, rowInstants, rowPoses, treeOf}
-use Rattle.registry.specs.Sound.{every, framesFit, parentsDiffer, noCircle, sound}
+use Rattle.registry.specs.Store.{Store, rowsIn, usedIn, flagIn, ageWordIn, kindIn, unusedHead, unusedInstants, unusedPoses, treeOf}
+use Rattle.registry.specs.Sound.{every, framesFit, parentsDiffer, noCircle, rowsSound, sound}
 use Rattle.registry.proofs.soundness.Everys.{and-parts}
 
 pub record Rules (s : Store) : Type 0 where
@@ -19,13 +18,13 @@ pub record Rules (s : Store) : Type 0 where
   pub frames : framesFit (treeOf s) ≡ true
   pub parents : parentsDiffer (treeOf s) ≡ true
   pub circles : noCircle (treeOf s) ≡ true
-  pub flag : leb (getD (s .head) 3 0) 1 ≡ true
-  pub age : (eqb (getD (s .head) 3 0) 1 || eqb (getD (s .head) 4 0) 0) ≡ true
-  pub kinds : every (usedIn s) (λ r. leb (rowWord s r 2) 1) ≡ true
-  pub rows : every (usedIn s) (λ r. rowSound (ageIn s) (kindOfWord (rowWord s r 2)) (rowWord s r 3) (rowInstants s r) (rowPoses s r)) ≡ true
-  pub headRest : all (eqb 0) (drop (5 + 4 * usedIn s) (s .head)) ≡ true
-  pub instantsRest : all (eqb 0) (drop (usedIn s * placesIn s) (s .instants)) ≡ true
-  pub posesRest : all isZero (drop (7 * (usedIn s * placesIn s)) (s .poses)) ≡ true
+  pub flag : leb (flagIn s) 1 ≡ true
+  pub age : (eqb (flagIn s) 1 || eqb (ageWordIn s) 0) ≡ true
+  pub kinds : every (usedIn s) (λ r. leb (kindIn s r) 1) ≡ true
+  pub rows : rowsSound s ≡ true
+  pub headRest : all (eqb 0) (unusedHead s) ≡ true
+  pub instantsRest : all (eqb 0) (unusedInstants s) ≡ true
+  pub posesRest : all isZero (unusedPoses s) ≡ true
 
 module _ (s : Store) where
   rules-of : sound s ≡ true → Rules s

@@ -8,7 +8,7 @@ use lib.Dec.{eqb}
 use lib.Ieee.{Float}
 use Rattle.buffer.specs.Map.{all, get}
 use Rattle.buffer.proofs.Cases.{both}
-use Rattle.registry.specs.Tree.{Edge, Tree, isNew}
+use Rattle.registry.specs.Tree.{Edge, Tree, isAbsent}
 use Rattle.registry.specs.Store.{Store, usedIn, rowAt, tabulate, treeOf}
 use Rattle.registry.specs.Sound.{stepUp, climb, noCircle}
 use Rattle.registry.specs.Calls.{storeOf}
@@ -22,7 +22,7 @@ step-alike : {t u : Tree} → Alike t u → (f k : ℕ) (next : ℕ → ℕ) →
 step-alike ends f k next = refl
 step-alike (goes {child} p a) f k next = both (eqb f child) (λ e. rw e (ap next p)) (λ e. rw e (step-alike a f k next))
 
-new-alike : {t u : Tree} → Alike t u → (f : ℕ) → isNew (get t f) ≡ isNew (get u f)
+new-alike : {t u : Tree} → Alike t u → (f : ℕ) → isAbsent (get t f) ≡ isAbsent (get u f)
 new-alike ends f = refl
 new-alike (goes {child} p a) f = both (eqb f child) (λ e. rw e) (λ e. rw e (new-alike a f))
 
@@ -42,10 +42,10 @@ module _ {t u : Tree} (a : Alike t u) where
   circle-alike : noCircle t ≡ noCircle u
   unfolding noCircle
   circle-alike =
-      all-alike a (λ f. isNew (get t (climb (length t) t f))) (λ f. isNew (get u (climb (length u) u f)))
+      all-alike a (λ f. isAbsent (get t (climb (length t) t f))) (λ f. isAbsent (get u (climb (length u) u f)))
       (λ f.
       new-alike a (climb (length t) t f)
-      ∙ ap (λ (x : ℕ). isNew (get u x)) (climb-alike (length t) f ∙ ap (λ (n : ℕ). climb n u f) (length-alike a)))
+      ∙ ap (λ (x : ℕ). isAbsent (get u x)) (climb-alike (length t) f ∙ ap (λ (n : ℕ). climb n u f) (length-alike a)))
 
 tabulate-alike : (n : ℕ) (c : ℕ → ℕ) (d e : ℕ → Edge) → ((r : ℕ) → d r .parent ≡ e r .parent) → Alike (tabulate n (λ r. (c r, d r))) (tabulate n (λ r. (c r, e r)))
 tabulate-alike zero c d e h = ends

@@ -18,6 +18,7 @@ use Rattle.buffer.proofs.Alls.{all-get, all-put, all-weaken}
 use Rattle.buffer.proofs.SoundRows.{SoundSamples, instants-of}
 use Rattle.registry.specs.Tree.{Edge, Tree, Limits, ancestors, member}
 use Rattle.registry.specs.Laws.{SoundTree}
+use Rattle.registry.specs.Sound.{sound}
 use Rattle.registry.proofs.layout.StoreBack.{Fits}
 use Rattle.registry.proofs.paths.Climbing.{Grounded, grounded-ranked, ranked-grounded}
 use Rattle.registry.proofs.soundness.NoCircle.{circle-grounded, grounded-circle}
@@ -25,23 +26,23 @@ use Rattle.registry.proofs.paths.Ancestors.{ranked-held, ranked-new}
 
 -- ---- a row's samples
 
-few-places : (age : Option ℕ) (places : ℕ) (kind : Kind) (m : Samples) → 1 ≤ places → instantsSound age places kind m ≡ true → length m ≤ places
-few-places age places Static m h e = let l = eqb-true (length m) 1 (and-left (eqb (length m) 1) _ e) in omega arith
-few-places age places Dynamic m h e = leb-true (length m) places (and-left (leb (length m) places) (rising m) (and-left _ _ e))
+within-capacity : (age : Option ℕ) (capacity : ℕ) (kind : Kind) (m : Samples) → 1 ≤ capacity → instantsSound age capacity kind m ≡ true → length m ≤ capacity
+within-capacity age capacity Static m h e = let l = eqb-true (length m) 1 (and-left (eqb (length m) 1) _ e) in omega arith
+within-capacity age capacity Dynamic m h e = leb-true (length m) capacity (and-left (leb (length m) capacity) (rising m) (and-left _ _ e))
 
 -- the rules, as facts
-pub samples-sound : (age : Option ℕ) (places : ℕ) (kind : Kind) (m : Samples) → 1 ≤ places → instantsSound age places kind m ≡ true → posesSound m ≡ true
-    → SoundSamples age places kind m
-samples-sound age places kind m h i p =
-    let facts = instants-of age places kind m i in
-    record { few = few-places age places kind m h i; single = facts .0; rises = facts .1; fresh = facts .2; valid = p }
+pub samples-sound : (age : Option ℕ) (capacity : ℕ) (kind : Kind) (m : Samples) → 1 ≤ capacity → instantsSound age capacity kind m ≡ true → posesSound m ≡ true
+    → SoundSamples age capacity kind m
+samples-sound age capacity kind m h i p =
+    let facts = instants-of age capacity kind m i in
+    record { few = within-capacity age capacity kind m h i; single = facts .0; rises = facts .1; fresh = facts .2; valid = p }
 
 -- ---- rows
 
 pub record SoundEdge (L : Limits) (c : ℕ) (d : Edge) : Type 0 where
   pub frames : (ltb c (2 ^ 32) && ltb (d .parent) (2 ^ 32)) ≡ true
   pub parents : not (eqb (d .parent) c) ≡ true
-  pub instants : instantsSound (L .age) (L .places) (d .kind) (d .samples) ≡ true
+  pub instants : instantsSound (L .age) (L .capacity) (d .kind) (d .samples) ≡ true
   pub poses : posesSound (d .samples) ≡ true
 
 module _ (L : Limits) (t : Tree) (s : SoundTree L t) where
@@ -58,7 +59,7 @@ module _ (L : Limits) (t : Tree) (s : SoundTree L t) where
   sound-edge c e q = record {
     frames = at-child (λ x. ltb (x .0) (2 ^ 32) && ltb (x .1 .parent) (2 ^ 32)) (s .frames) c e q;
     parents = at-child (λ x. not (eqb (x .1 .parent) (x .0))) (s .parents) c e q;
-    instants = at-child (λ x. instantsSound (L .age) (L .places) (x .1 .kind) (x .1 .samples)) (s .instants) c e q;
+    instants = at-child (λ x. instantsSound (L .age) (L .capacity) (x .1 .kind) (x .1 .samples)) (s .instants) c e q;
     poses = at-child (λ x. posesSound (x .1 .samples)) (s .poses) c e q;
   }
 
@@ -72,7 +73,7 @@ module _ (L : Limits) (t : Tree) (s : SoundTree L t) where
           frames = all-put (λ x. ltb (x .0) (2 ^ 32) && ltb (x .1 .parent) (2 ^ 32)) c d t (sound .frames) (s .frames);
           parents = all-put (λ x. not (eqb (x .1 .parent) (x .0))) c d t (sound .parents) (s .parents);
           circles = grounded-circle (put c d t) rises grounded;
-          instants = all-put (λ x. instantsSound (L .age) (L .places) (x .1 .kind) (x .1 .samples)) c d t (sound .instants) (s .instants);
+          instants = all-put (λ x. instantsSound (L .age) (L .capacity) (x .1 .kind) (x .1 .samples)) c d t (sound .instants) (s .instants);
           poses = all-put (λ x. posesSound (x .1 .samples)) c d t (sound .poses) (s .poses);
         }
 
@@ -92,9 +93,9 @@ module _ (L : Limits) (t : Tree) (s : SoundTree L t) where
         (ranked-grounded (put c d t) _ (ranked-new t _ (grounded-ranked t tree-grounded) c d q (rw own apart)))
 
 -- a sound tree fits its limits
-pub sound-fits : (L : Limits) (t : Tree) → 1 ≤ L .places → SoundTree L t → Fits L t
+pub sound-fits : (L : Limits) (t : Tree) → 1 ≤ L .capacity → SoundTree L t → Fits L t
 sound-fits L t h s = record {
   rows = s .few;
-  samples = all-weaken (λ x. instantsSound (L .age) (L .places) (x .1 .kind) (x .1 .samples)) (λ x. leb (length (x .1 .samples)) (L .places)) t
-      (λ x e. le-leb (length (x .1 .samples)) (L .places) (few-places (L .age) (L .places) (x .1 .kind) (x .1 .samples) h e)) (s .instants);
+  samples = all-weaken (λ x. instantsSound (L .age) (L .capacity) (x .1 .kind) (x .1 .samples)) (λ x. leb (length (x .1 .samples)) (L .capacity)) t
+      (λ x e. le-leb (length (x .1 .samples)) (L .capacity) (within-capacity (L .age) (L .capacity) (x .1 .kind) (x .1 .samples) h e)) (s .instants);
 }

@@ -21,15 +21,15 @@ use Rattle.registry.specs.Laws.{WipeKeepsSound}
 use Rattle.registry.proofs.soundness.SoundEdges.{sound-edge, sound-put-held}
 use Rattle.registry.proofs.remove_before.Wiped.{wipe-accepted}
 
-wiped-instants : (age : Option ℕ) (places : ℕ) (k : Kind) (i : ℕ) (m : Samples) → instantsSound age places k m ≡ true → instantsSound age places k (removeBefore k i m) ≡ true
-wiped-instants age places Static i m h = h
-wiped-instants age places Dynamic i m h =
-    let facts = instants-of age places Dynamic m h in
-    let few : length m ≤ places = leb-true (length m) places (and-left (leb (length m) places) (rising m) (and-left _ _ h)) in
+wiped-instants : (age : Option ℕ) (capacity : ℕ) (k : Kind) (i : ℕ) (m : Samples) → instantsSound age capacity k m ≡ true → instantsSound age capacity k (removeBefore k i m) ≡ true
+wiped-instants age capacity Static i m h = h
+wiped-instants age capacity Dynamic i m h =
+    let facts = instants-of age capacity Dynamic m h in
+    let few : length m ≤ capacity = leb-true (length m) capacity (and-left (leb (length m) capacity) (rising m) (and-left _ _ h)) in
     let left = removeBefore Dynamic i m in
     and-both _ _
     (and-both _ _
-    (le-leb (length left) places (omega (arith, length-removeBefore-le Dynamic i m)))
+    (le-leb (length left) capacity (omega (arith, length-removeBefore-le Dynamic i m)))
     (rising-is left .1 (rising-removeBefore Dynamic i m (facts .1))))
     (fresh-removeBefore age Dynamic i m (facts .2))
 
@@ -43,7 +43,7 @@ wipeKeepsSound L t u f i s e =
     (record {
       frames = ap (λ (p : ℕ). ltb f (2 ^ 32) && ltb p (2 ^ 32)) (w .parent) ∙ old .frames;
       parents = ap (λ (p : ℕ). not (eqb p f)) (w .parent) ∙ old .parents;
-      instants = (λ j. instantsSound (L .age) (L .places) (w .kind j) (samples j)) ∙ wiped-instants (L .age) (L .places) (w .edge .kind) i (w .edge .samples) (old .instants);
+      instants = (λ j. instantsSound (L .age) (L .capacity) (w .kind j) (samples j)) ∙ wiped-instants (L .age) (L .capacity) (w .edge .kind) i (w .edge .samples) (old .instants);
       poses = ap posesSound samples ∙ all-removeBefore (λ x. passes (validate (x .1))) (w .edge .kind) i (w .edge .samples) (old .poses);
     })
     (w .edge) (w .held) (w .parent))

@@ -1,28 +1,24 @@
 -- The walks up from two frames, as the contracts of the private functions cite them. No public contract rests on these.
-use Prim.Native.Nat.{ℕ, _+_, _*_, _^_, _≤_, _<_}
+use Prim.Native.Nat.{ℕ, _^_, _<_}
 use mathlib.Core.Path.{_≡_}
 use mathlib.Core.Bool.{Bool, true, cond}
+use mathlib.Core.Option.{some}
 use mathlib.Core.List.{List, [], _∷_}
 use lib.Dec.{eqb}
 use lib.ListN.{length}
-use lib.Ieee.{Float}
 use Rattle.time.specs.Reply.{Reply, answer, refusal, frame, _then_}
-use Rattle.buffer.specs.Row.{Instants, Row}
-use Rattle.registry.specs.declared.paths.meeting.Climb.{Climb}
-use Rattle.registry.specs.declared.paths.meeting.Climb.the-variants.{Met, Root}
+use Rattle.buffer.specs.Map.{get}
+use Rattle.registry.specs.declared.paths.climbs.Climb.{Climb}
+use Rattle.registry.specs.declared.paths.climbs.Climb.the-variants.{Met, Root}
 use Rattle.registry.specs.declared.paths.frames.Endpoints.{Endpoints}
 use Rattle.registry.specs.declared.paths.frames.Endpoints.the-variants.{Same, Unknown, Known}
-use Rattle.registry.specs.Tree.{Tree, ancestors, member}
-use Rattle.registry.specs.Store.{Store, placesIn, rowWord, rowInstants, rowPoses, treeOf}
+use Rattle.registry.specs.Tree.{Edge, Tree, ancestors, member}
+use Rattle.registry.specs.Store.{Store}
 use Rattle.registry.specs.Sound.{noCircle}
 use Rattle.registry.specs.Answers.{Value, at}
-use Rattle.registry.specs.Calls.{storeOf}
-use Rattle.registry.specs.layout.Rows.{childAt, RisingRows}
+use Rattle.registry.specs.layout.Rows.{InstantRows, SampleRows}
+use Rattle.registry.specs.paths.Edges.{OfTree}
 use Rattle.registry.specs.Path.{Hop, chain, until, side, connected, hops, ask}
-
--- P of the tree with this head, whatever its instants and poses
-abbrev pub OfTree : List ℕ → (Tree → Type 0) → Type 0
-OfTree h P = (instants : List ℕ) (poses : List Float) → P (treeOf (storeOf h instants poses))
 
 -- the hops from f up to the frame top, or to the root where top is not above f
 abbrev pub hopsTo : Tree → ℕ → ℕ → List Hop
@@ -38,36 +34,21 @@ firstOrLast test x [] = x
 firstOrLast test x (y ∷ ys) = cond (test x) x (firstOrLast test y ys)
 
 -- the frame at which the climb from f ends: the first of its chain that is g or above g, or the root where there is none
-unfoldable pub top : Tree → ℕ → ℕ → ℕ
-top t f g = firstOrLast (λ x. member x (chain t g)) f (ancestors t f)
-
--- ---- what the functions on a row ask of their callers
-
--- row r lies within the head and the instants, and its held instants rise
-pub record HeldInstants (s : Store) (r : ℕ) : Type 0 where
-  pub head : 8 + 4 * r < length (s .head)
-  pub within : r * placesIn s + placesIn s ≤ length (s .instants)
-  pub held : Instants (rowWord s r 3) (rowInstants s r)
-
--- row r lies within the three slices, and its samples are those of a row
-pub record HeldRow (s : Store) (r : ℕ) : Type 0 where
-  pub instants : HeldInstants s r
-  pub within : 7 * (r * placesIn s + placesIn s) ≤ length (s .poses)
-  pub held : Row (rowWord s r 3) (rowInstants s r) (rowPoses s r)
+unfoldable pub climbEnd : Tree → ℕ → ℕ → ℕ
+climbEnd t f g = firstOrLast (λ x. member x (chain t g)) f (ancestors t f)
 
 -- ---- what the walks ask of their callers
 
--- the rows of a head in use and their instants
-pub record Walkable (n : ℕ) (h instants : List ℕ) : Type 0 where
-  pub rows : RisingRows n h
+-- the rows of a head with their instants; no circle, and children of 32 bits
+pub record Walkable (h instants : List ℕ) : Type 0 where
+  pub rows : InstantRows h instants
   pub circles : OfTree h (λ t. noCircle t ≡ true)
-  pub frames : (r : ℕ) → r < n → childAt h r < 2 ^ 32
-  pub held : (r : ℕ) → r < n → HeldInstants (storeOf h instants []) r
+  pub frames : OfTree h (λ t. (f : ℕ) (e : Edge) → get t f ≡ some e → f < 2 ^ 32)
 
 -- and their poses
-pub record Posed (n : ℕ) (s : Store) : Type 0 where
-  pub walk : Walkable n (s .head) (s .instants)
-  pub held : (r : ℕ) → r < n → HeldRow s r
+pub record WalkablePoses (s : Store) : Type 0 where
+  pub walk : Walkable (s .head) (s .instants)
+  pub rows : SampleRows s
 
 -- ---- what the private functions answer
 

@@ -2,7 +2,7 @@
 use super::cycle;
 use super::stamp;
 use crate::answer::Answer;
-use crate::layout::head;
+use crate::layout;
 use buffer::kind::Kind;
 use geometry::isometry::Isometry;
 use geometry::transform;
@@ -10,21 +10,20 @@ use time::stamp::Stamp;
 ghost use mathlib.Core.Path.{_≡_};
 ghost use mathlib.Core.Option.{none, some};
 ghost use mathlib.Core.List.{List};
-ghost use Prim.Native.Nat.{ℕ, _+_, _*_, _^_, _<_};
+ghost use Prim.Native.Nat.{ℕ, _^_, _<_};
 ghost use lib.Ieee.{Float};
-ghost use lib.ListN.{length};
 ghost use Rattle.time.specs.declared.stamp.Stamp.{Stamp};
 ghost use Rattle.time.specs.Reply.{answer};
 ghost use Rattle.registry.specs.Tree.{Limits, Tree, sameKind, addition};
-ghost use Rattle.registry.specs.Store.{usedIn, rowWord, rowAt, limitsOf, treeOf};
+ghost use Rattle.registry.specs.Store.{parentIn, edgeAt, limitsOf, treeOf};
 ghost use Rattle.registry.specs.Answers.{replyOf, done};
 ghost use Rattle.registry.specs.Calls.{storeOf};
-ghost use Rattle.registry.specs.addition.Adding.{posed, admits};
-ghost use Rattle.registry.specs.layout.Rows.{headOf, RisingRows};
+ghost use Rattle.registry.specs.addition.Adding.{poseTests, admits};
+ghost use Rattle.registry.specs.layout.Rows.{headOf, HasRow, RisingRows};
 
 // Refusals 3, 4 and 5.
 fn test_pose(child: u32, parent: u32, pose: Isometry) -> Answer
-    ensures { λ r. ⌜ replyOf r ≡ posed child parent pose (answer done) ⌝ }
+    ensures { λ r. ⌜ replyOf r ≡ poseTests child parent pose (answer done) ⌝ }
 {
     match transform::validate(pose) {
         transform::Answer::Pose(_) => {
@@ -62,19 +61,19 @@ pub(crate) fn admit_held(
     stamp: Stamp,
     pose: Isometry,
 ) -> Answer
-    requires { ⌜ (8 + 4 * r < length (now head)) × (rowWord (headOf (now head)) r 1 < 2 ^ 32) ⌝ }
+    requires { ⌜ HasRow r (now head) × (parentIn (headOf (now head)) r < 2 ^ 32) ⌝ }
     ensures { λ a. ⌜ ((L : Limits) (t : Tree) (instants : List ℕ) (poses : List Float)
-        → replyOf a ≡ admits L t (addition child parent stamp pose) (some (rowAt (storeOf (now (head .entry)) instants poses) r .1)) (answer done)) ⌝ }
+        → replyOf a ≡ admits L t (addition child parent stamp pose) (some (edgeAt (storeOf (now (head .entry)) instants poses) r)) (answer done)) ⌝ }
 {
     let tested = test_pose(child, parent, pose);
     let Answer::Done = tested else {
         return tested;
     };
-    let held = head::parent_at(head, r);
+    let held = layout::parent_at(head, r);
     if held != parent as u64 {
         return Answer::ReparentingNotSupported(held as u32);
     }
-    if !same_kind(head::row_kind(head, r), stamp::kind_of(stamp)) {
+    if !same_kind(layout::row_kind(head, r), stamp::kind_of(stamp)) {
         return Answer::StaticDynamicConflict;
     }
     Answer::Done
@@ -82,19 +81,18 @@ pub(crate) fn admit_held(
 
 // Refusals 7, 3, 4, 5 and 16, where the child has no row.
 pub(crate) fn admit_new(head: &[u64], child: u32, parent: u32, pose: Isometry) -> Answer
-    requires { ⌜ RisingRows (usedIn (headOf (now head))) (now head) ⌝ }
+    requires { ⌜ RisingRows (now head) ⌝ }
     ensures { λ a. ⌜ ((instants : List ℕ) (poses : List Float) (stamp : Stamp)
         → (let s = storeOf (now (head .entry)) instants poses in replyOf a ≡ admits (limitsOf s) (treeOf s) (addition child parent stamp pose) none (answer done))) ⌝ }
 {
-    let used = head[head::USED];
-    if cycle::creates_cycle(head, used as usize, child as u64, parent as u64) {
+    if cycle::creates_cycle(head, child as u64, parent as u64) {
         return Answer::CycleDetected;
     }
     let tested = test_pose(child, parent, pose);
     let Answer::Done = tested else {
         return tested;
     };
-    if head[head::ROWS] <= used {
+    if layout::rows(head) as usize <= layout::used(head) {
         return Answer::TreeFull;
     }
     Answer::Done

@@ -3,53 +3,16 @@ use super::admit;
 use super::new_row;
 use super::stamp;
 use crate::answer::Answer;
-use crate::layout::head;
-use buffer::insert;
-use buffer::insert::Inserted;
+use crate::layout;
 use geometry::isometry::Isometry;
 use time::stamp::Stamp;
 ghost use mathlib.Core.Path.{_≡_};
 ghost use Rattle.registry.specs.Tree.{add, addition};
-ghost use Rattle.registry.specs.Store.{usedIn, limitsOf, treeOf};
+ghost use Rattle.registry.specs.Store.{limitsOf, treeOf};
+ghost use Rattle.registry.specs.Sound.{SoundStore};
 ghost use Rattle.registry.specs.Answers.{replyOf};
 ghost use Rattle.registry.specs.Calls.{outcome, storeOf, written};
-ghost use Rattle.registry.specs.layout.Rows.{headOf, IsRow, IsAbsent, RowPart};
-ghost use Rattle.registry.specs.soundness.Checks.{SoundStore};
-ghost use Rattle.registry.specs.addition.Adding.{EncodedRow, putInto};
-
-// Puts a sample into row r, or 17.
-fn put_row(
-    head: &mut [u64],
-    instants: &mut [u64],
-    poses: &mut [f64],
-    r: usize,
-    instant: u64,
-    pose: Isometry,
-) -> Answer
-    requires { ⌜ RowPart r (storeOf (now head) (now instants) (now poses)) × EncodedRow r (storeOf (now head) (now instants) (now poses)) ⌝ }
-    ensures { λ a. ⌜ outcome (replyOf a) (now (head .exit)) (now (instants .exit)) (now (poses .exit))
-        ≡ (let s = storeOf (now (head .entry)) (now (instants .entry)) (now (poses .entry)) in written s (limitsOf s) (putInto s r instant pose)) ⌝ }
-{
-    let places = head[head::PLACES] as usize;
-    let count = head::count_at(head, r) as usize;
-    let max_age = head::max_age(head);
-    let first = r * places;
-    let float = 7 * first;
-    let inserted = insert::insert(
-        &mut instants[first..first + places],
-        &mut poses[float..float + 7 * places],
-        count,
-        max_age,
-        instant,
-        pose,
-    );
-    let Inserted::Held(held) = inserted else {
-        return Answer::RowFull;
-    };
-    let place = head::word_place(r, 3);
-    head[place] = held as u64;
-    Answer::Done
-}
+ghost use Rattle.registry.specs.layout.Rows.{IsRow, AbsentAt};
 
 // Adds to a child whose row is r.
 pub(crate) fn add_held(
@@ -62,7 +25,7 @@ pub(crate) fn add_held(
     stamp: Stamp,
     pose: Isometry,
 ) -> Answer
-    requires { ⌜ SoundStore (storeOf (now head) (now instants) (now poses)) × IsRow (usedIn (headOf (now head))) (now head) child r ⌝ }
+    requires { ⌜ SoundStore (storeOf (now head) (now instants) (now poses)) × IsRow (now head) child r ⌝ }
     ensures { λ a. ⌜ outcome (replyOf a) (now (head .exit)) (now (instants .exit)) (now (poses .exit))
         ≡ (let s = storeOf (now (head .entry)) (now (instants .entry)) (now (poses .entry)) in written s (limitsOf s) (add (limitsOf s) (treeOf s) (addition child parent stamp pose))) ⌝ }
 {
@@ -70,7 +33,7 @@ pub(crate) fn add_held(
     let Answer::Done = admitted else {
         return admitted;
     };
-    put_row(head, instants, poses, r, stamp::instant_of(stamp), pose)
+    layout::put_row(head, instants, poses, r, stamp::instant_of(stamp), pose)
 }
 
 // Adds a child that has no row; its row stands at k.
@@ -84,7 +47,7 @@ pub(crate) fn add_new(
     stamp: Stamp,
     pose: Isometry,
 ) -> Answer
-    requires { ⌜ SoundStore (storeOf (now head) (now instants) (now poses)) × IsAbsent (usedIn (headOf (now head))) (now head) child k ⌝ }
+    requires { ⌜ SoundStore (storeOf (now head) (now instants) (now poses)) × AbsentAt (now head) child k ⌝ }
     ensures { λ a. ⌜ outcome (replyOf a) (now (head .exit)) (now (instants .exit)) (now (poses .exit))
         ≡ (let s = storeOf (now (head .entry)) (now (instants .entry)) (now (poses .entry)) in written s (limitsOf s) (add (limitsOf s) (treeOf s) (addition child parent stamp pose))) ⌝ }
 {
@@ -101,5 +64,5 @@ pub(crate) fn add_new(
         parent as u64,
         stamp::kind_of(stamp),
     );
-    put_row(head, instants, poses, k, stamp::instant_of(stamp), pose)
+    layout::put_row(head, instants, poses, k, stamp::instant_of(stamp), pose)
 }

@@ -1,24 +1,19 @@
-// Latest common time, on a store that is sized and sound.
+// Latest common time of two frames of the tree.
 use crate::answer::Answer;
 use crate::answer::Covered;
-use crate::layout::find;
-use crate::layout::find::Found;
-use crate::layout::head;
-use crate::paths::frames;
-use crate::paths::frames::Endpoints;
-use crate::paths::meeting;
-use crate::paths::row;
+use crate::paths::climbs;
+use crate::paths::edges;
+use crate::paths::edges::HopCoverage;
 use buffer::coverage::Coverage;
 ghost use mathlib.Core.Path.{_≡_};
 ghost use mathlib.Core.List.{List, _++_};
 ghost use Prim.Native.Nat.{min};
 ghost use lib.Ieee.{Float};
 ghost use Rattle.time.specs.Reply.{refusal, nothing, _then_};
-ghost use Rattle.registry.specs.Store.{usedIn, treeOf};
+ghost use Rattle.registry.specs.Store.{treeOf};
 ghost use Rattle.registry.specs.Answers.{replyOf};
 ghost use Rattle.registry.specs.Calls.{storeOf};
-ghost use Rattle.registry.specs.Path.{spans, meet, commonTime};
-ghost use Rattle.registry.specs.layout.Rows.{headOf};
+ghost use Rattle.registry.specs.Path.{spans, meet};
 ghost use Rattle.registry.specs.paths.Walks.{hopsTo, Walkable, askKnown};
 ghost use Rattle.registry.specs.common_time.Spans.{commonOf, spanOf, narrowedReply, narrow, narrowBy, narrowed, agreed};
 
@@ -80,34 +75,25 @@ fn narrow_by(common: Common, child: u32, coverage: Coverage) -> Narrowed
 }
 
 // The hops from the frame up to the frame `top`, or to the root.
-fn narrow_chain(
-    head: &[u64],
-    instants: &[u64],
-    used: usize,
-    frame: u64,
-    top: u64,
-    common: Common,
-) -> Narrowed
-    requires { ⌜ Walkable used (now head) (now instants) ⌝ }
+fn narrow_chain(head: &[u64], instants: &[u64], frame: u64, top: u64, common: Common) -> Narrowed
+    requires { ⌜ Walkable (now head) (now instants) ⌝ }
     ensures { λ r. ⌜ ((poses : List Float) → narrowedReply r
         ≡ narrowed (commonOf common) (hopsTo (treeOf (storeOf (now (head .entry)) (now (instants .entry)) poses)) frame top)) ⌝ }
 {
     let mut at = frame;
-    let mut so_far = common;
+    let mut common_span = common;
     while at != top {
-        let found = find::find_row(head, used, at);
-        let Found::At(row) = found else {
-            return Narrowed::To(so_far);
+        let HopCoverage::Served(coverage, parent) = edges::coverage_of(head, instants, at) else {
+            return Narrowed::To(common_span);
         };
-        let coverage = row::row_coverage(head, instants, row);
-        let next = narrow_by(so_far, at as u32, coverage);
+        let next = narrow_by(common_span, at as u32, coverage);
         let Narrowed::To(narrower) = next else {
             return next;
         };
-        so_far = narrower;
-        at = head::parent_at(head, row);
+        common_span = narrower;
+        at = parent;
     }
-    Narrowed::To(so_far)
+    Narrowed::To(common_span)
 }
 
 // The earliest end, where no hop starts after it.
@@ -129,48 +115,26 @@ fn agreed(common: Common) -> Answer
     Answer::At(end)
 }
 
-// Of two frames of the tree.
-fn common_time_known(
-    head: &[u64],
-    instants: &[u64],
-    used: usize,
-    target: u64,
-    source: u64,
-) -> Answer
-    requires { ⌜ Walkable used (now head) (now instants) ⌝ }
+pub(crate) fn common_time_known(head: &[u64], instants: &[u64], target: u64, source: u64) -> Answer
+    requires { ⌜ Walkable (now head) (now instants) ⌝ }
     ensures { λ r. ⌜ ((poses : List Float) → replyOf r
         ≡ askKnown (treeOf (storeOf (now (head .entry)) (now (instants .entry)) poses)) target source
         (λ a b. spans (a ++ b) then meet) (λ a b. refusal 10 nothing)) ⌝ }
 {
-    let tops = meeting::meeting(head, used, target, source);
-    let target_top = tops.target;
-    let source_top = tops.source;
-    if target_top != source_top {
+    let ends = climbs::climb_ends(head, target, source);
+    let target_end = ends.target;
+    let source_end = ends.source;
+    if target_end != source_end {
         return Answer::Disconnected;
     }
-    let climbed = narrow_chain(head, instants, used, target, target_top, Common::AllTime);
+    let climbed = narrow_chain(head, instants, target, target_end, Common::AllTime);
     let common = match climbed {
         Narrowed::To(common) => common,
         Narrowed::Empty(child) => return Answer::NoCommonTime(child, Covered::Nothing),
     };
-    let climbed = narrow_chain(head, instants, used, source, source_top, common);
+    let climbed = narrow_chain(head, instants, source, source_end, common);
     match climbed {
         Narrowed::To(common) => agreed(common),
         Narrowed::Empty(child) => Answer::NoCommonTime(child, Covered::Nothing),
-    }
-}
-
-// The latest instant that every hop between the frames serves.
-pub(crate) fn common_time(head: &[u64], instants: &[u64], target: u32, source: u32) -> Answer
-    requires { ⌜ Walkable (usedIn (headOf (now head))) (now head) (now instants) ⌝ }
-    ensures { λ r. ⌜ ((poses : List Float) → replyOf r ≡ commonTime (treeOf (storeOf (now (head .entry)) (now (instants .entry)) poses)) target source) ⌝ }
-{
-    let used = head[head::USED] as usize;
-    match frames::find_frames(head, used, target, source) {
-        Endpoints::Same => Answer::Static,
-        Endpoints::Unknown(frame) => Answer::UnknownFrame(frame),
-        Endpoints::Known => {
-            common_time_known(head, instants, used, target as u64, source as u64)
-        }
     }
 }

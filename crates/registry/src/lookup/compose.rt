@@ -1,11 +1,8 @@
 // The poses of a path's two sides, composed while climbing.
 use crate::answer::Answer;
 use crate::answer::Covered;
-use crate::layout::find;
-use crate::layout::find::Found;
-use crate::layout::head;
-use crate::paths::row;
-use buffer::get::Got;
+use crate::paths::edges;
+use crate::paths::edges::HopPose;
 use geometry::isometry::Isometry;
 use geometry::transform;
 ghost use mathlib.Core.Path.{_≡_};
@@ -16,7 +13,7 @@ ghost use Rattle.registry.specs.Answers.{pose, replyOf};
 ghost use Rattle.registry.specs.Calls.{storeOf};
 ghost use Rattle.registry.specs.Path.{onto, fold, joined};
 ghost use Rattle.registry.specs.lookup.Sides.{sideOf, composedReply};
-ghost use Rattle.registry.specs.paths.Walks.{hopsTo, Posed};
+ghost use Rattle.registry.specs.paths.Walks.{hopsTo, WalkablePoses};
 
 // The product of a side's poses, if it has a hop.
 pub(crate) enum Side {
@@ -45,33 +42,24 @@ pub(crate) fn compose_chain(
     head: &[u64],
     instants: &[u64],
     poses: &[f64],
-    used: usize,
     frame: u64,
     top: u64,
     t: u64,
 ) -> Composed
-    requires { ⌜ Posed used (storeOf (now head) (now instants) (now poses)) ⌝ }
+    requires { ⌜ WalkablePoses (storeOf (now head) (now instants) (now poses)) ⌝ }
     ensures { λ r. ⌜ composedReply r ≡ fold none (hopsTo (treeOf (storeOf (now (head .entry)) (now (instants .entry)) (now (poses .entry)))) frame top) t ⌝ }
 {
     let mut at = frame;
     let mut below = Side::Empty;
     while at != top {
-        let found = find::find_row(head, used, at);
-        let Found::At(row) = found else {
-            return Composed::Side(below);
-        };
-        let got = row::sample(head, instants, poses, row, t);
-        let pose = match got {
-            Got::Pose(pose) => pose,
-            Got::OutOfRange { start, end } => {
-                return Composed::NotFoundAt(at as u32, Covered::Range { start, end });
+        match edges::pose_of(head, instants, poses, at, t) {
+            HopPose::Root => return Composed::Side(below),
+            HopPose::NotFoundAt(covered) => return Composed::NotFoundAt(at as u32, covered),
+            HopPose::Pose(pose, parent) => {
+                below = Side::Product(onto(pose, below));
+                at = parent;
             }
-            Got::NoTransformAvailable => {
-                return Composed::NotFoundAt(at as u32, Covered::Nothing);
-            }
-        };
-        below = Side::Product(onto(pose, below));
-        at = head::parent_at(head, row);
+        }
     }
     Composed::Side(below)
 }

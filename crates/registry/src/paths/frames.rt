@@ -1,19 +1,21 @@
 // The two frames of a question: whether they are in the tree.
-use crate::layout::find;
-use crate::layout::find::Found;
-use crate::layout::head;
+use super::edges;
+use super::edges::Parent;
+use crate::layout;
 ghost use mathlib.Core.Path.{_≡_};
 ghost use Rattle.registry.specs.Path.{isParent, known};
 ghost use Rattle.registry.specs.layout.Rows.{UsedRows, RisingRows};
-ghost use Rattle.registry.specs.paths.Walks.{OfTree, AskedBy};
+ghost use Rattle.registry.specs.paths.Edges.{OfTree};
+ghost use Rattle.registry.specs.paths.Walks.{AskedBy};
 
-fn is_parent(head: &[u64], used: usize, frame: u64) -> bool
-    requires { ⌜ UsedRows used (now head) ⌝ }
+fn is_parent(head: &[u64], frame: u64) -> bool
+    requires { ⌜ UsedRows (now head) ⌝ }
     ensures { λ r. ⌜ OfTree (now (head .entry)) (λ t. r ≡ isParent frame t) ⌝ }
 {
+    let used = layout::used(head);
     let mut row = 0;
     while row < used {
-        if head::parent_at(head, row) == frame {
+        if layout::parent_at(head, row) == frame {
             return true;
         }
         row += 1;
@@ -22,15 +24,14 @@ fn is_parent(head: &[u64], used: usize, frame: u64) -> bool
 }
 
 // Whether the frame is a child or a parent.
-fn frame_exists(head: &[u64], used: usize, frame: u64) -> bool
-    requires { ⌜ RisingRows used (now head) ⌝ }
+fn frame_exists(head: &[u64], frame: u64) -> bool
+    requires { ⌜ RisingRows (now head) ⌝ }
     ensures { λ r. ⌜ OfTree (now (head .entry)) (λ t. r ≡ known t frame) ⌝ }
 {
-    let found = find::find_row(head, used, frame);
-    if let Found::At(_) = found {
+    if let Parent::Frame(_) = edges::parent_of(head, frame) {
         return true;
     }
-    is_parent(head, used, frame)
+    is_parent(head, frame)
 }
 
 // What two frames are to a question about their path.
@@ -41,17 +42,17 @@ pub(crate) enum Endpoints {
 }
 
 // One frame twice first, even when unknown; then the target.
-pub(crate) fn find_frames(head: &[u64], used: usize, target: u32, source: u32) -> Endpoints
-    requires { ⌜ RisingRows used (now head) ⌝ }
+pub(crate) fn find_frames(head: &[u64], target: u32, source: u32) -> Endpoints
+    requires { ⌜ RisingRows (now head) ⌝ }
     ensures { λ r. ⌜ OfTree (now (head .entry)) (λ t. AskedBy t target source r) ⌝ }
 {
     if target == source {
         return Endpoints::Same;
     }
-    if !frame_exists(head, used, target as u64) {
+    if !frame_exists(head, target as u64) {
         return Endpoints::Unknown(target);
     }
-    if !frame_exists(head, used, source as u64) {
+    if !frame_exists(head, source as u64) {
         return Endpoints::Unknown(source);
     }
     Endpoints::Known

@@ -1,26 +1,27 @@
 // The rules of the head: sizes, rows and age.
 use super::no_circle;
-use crate::layout::head;
+use crate::layout;
 ghost use mathlib.Core.Path.{_≡_};
 ghost use mathlib.Core.List.{List};
-ghost use Prim.Native.Nat.{ℕ, _+_, _*_, _≤_, _<_};
+ghost use Prim.Native.Nat.{ℕ, _≤_};
 ghost use lib.Ieee.{Float};
 ghost use lib.ListN.{length};
 ghost use Rattle.buffer.specs.Map.{rising};
-ghost use Rattle.registry.specs.Store.{rowsIn, treeOf};
+ghost use Rattle.registry.specs.Store.{headLength, rowsIn, usedIn, treeOf};
 ghost use Rattle.registry.specs.Sound.{every};
 ghost use Rattle.registry.specs.Calls.{storeOf};
-ghost use Rattle.registry.specs.layout.Rows.{headOf, UsedRows};
+ghost use Rattle.registry.specs.layout.Rows.{headOf, HasHeader, HasRow, UsedRows};
 ghost use Rattle.registry.specs.soundness.Checks.{rowFits, ageNamed, headSound};
 
-fn children_rise(head: &[u64], used: usize) -> bool
-    requires { ⌜ UsedRows used (now head) ⌝ }
+fn children_rise(head: &[u64]) -> bool
+    requires { ⌜ UsedRows (now head) ⌝ }
     ensures { λ r. ⌜ ((instants : List ℕ) (poses : List Float) → r ≡ rising (treeOf (storeOf (now (head .entry)) instants poses))) ⌝ }
 {
+    let used = layout::used(head);
     let mut r = 1;
     while r < used {
-        let below = head::child_at(head, r - 1);
-        let child = head::child_at(head, r);
+        let below = layout::child_at(head, r - 1);
+        let child = layout::child_at(head, r);
         if child <= below {
             return false;
         }
@@ -32,11 +33,11 @@ fn children_rise(head: &[u64], used: usize) -> bool
 // Whether row r's frames fit 32 bits, its parent differs from its child, and its kind has a named
 // value.
 fn row_fits(head: &[u64], r: usize) -> bool
-    requires { ⌜ 8 + 4 * r < length (now head) ⌝ }
+    requires { ⌜ HasRow r (now head) ⌝ }
     ensures { λ b. ⌜ b ≡ rowFits (now (head .entry)) r ⌝ }
 {
-    let child = head::child_at(head, r);
-    let parent = head::parent_at(head, r);
+    let child = layout::child_at(head, r);
+    let parent = layout::parent_at(head, r);
     if 0xffff_ffff < child {
         return false;
     }
@@ -46,13 +47,14 @@ fn row_fits(head: &[u64], r: usize) -> bool
     if parent == child {
         return false;
     }
-    head::kind_at(head, r) <= 1
+    layout::kind_at(head, r) <= 1
 }
 
-fn rows_fit(head: &[u64], used: usize) -> bool
-    requires { ⌜ UsedRows used (now head) ⌝ }
-    ensures { λ b. ⌜ b ≡ every used (rowFits (now (head .entry))) ⌝ }
+fn rows_fit(head: &[u64]) -> bool
+    requires { ⌜ UsedRows (now head) ⌝ }
+    ensures { λ b. ⌜ b ≡ every (usedIn (headOf (now (head .entry)))) (rowFits (now (head .entry))) ⌝ }
 {
+    let used = layout::used(head);
     let mut r = 0;
     while r < used {
         if !row_fits(head, r) {
@@ -65,37 +67,35 @@ fn rows_fit(head: &[u64], used: usize) -> bool
 
 // Whether the age flag has a named value, and the age is 0 without it.
 fn age_named(head: &[u64]) -> bool
-    requires { ⌜ 5 ≤ length (now head) ⌝ }
+    requires { ⌜ HasHeader (now head) ⌝ }
     ensures { λ r. ⌜ r ≡ ageNamed (now (head .entry)) ⌝ }
 {
-    let flag = head[head::AGE_FLAG];
+    let flag = layout::age_flag(head);
     if flag == 1 {
         return true;
     }
     if flag == 0 {
-        return head[head::AGE] == 0;
+        return layout::age_word(head) == 0;
     }
     false
 }
 
 // The rules of the head, but for its unused words.
 pub(crate) fn head_sound(head: &[u64]) -> bool
-    requires { ⌜ (rowsIn (headOf (now head)) ≤ 256) × (5 + 4 * rowsIn (headOf (now head)) ≤ length (now head)) ⌝ }
+    requires { ⌜ (rowsIn (headOf (now head)) ≤ 256) × (headLength (rowsIn (headOf (now head))) ≤ length (now head)) ⌝ }
     ensures { λ r. ⌜ ((instants : List ℕ) (poses : List Float) → r ≡ headSound (storeOf (now (head .entry)) instants poses)) ⌝ }
 {
-    let rows = head[head::ROWS] as usize;
-    let used = head[head::USED] as usize;
-    if rows < used {
+    if (layout::rows(head) as usize) < layout::used(head) {
         return false;
     }
-    if !children_rise(head, used) {
+    if !children_rise(head) {
         return false;
     }
-    if !rows_fit(head, used) {
+    if !rows_fit(head) {
         return false;
     }
     if !age_named(head) {
         return false;
     }
-    no_circle::no_circle(head, used)
+    no_circle::no_circle(head)
 }

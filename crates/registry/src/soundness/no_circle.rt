@@ -1,8 +1,8 @@
 // The rule that there is no circle, by doubling: the row of each row's parent, then of its parent's
 // parent, and so on, until the steps are as many as the rows.
-use crate::layout::find;
-use crate::layout::find::Found;
-use crate::layout::head;
+use crate::layout;
+use crate::search;
+use crate::search::Found;
 ghost use mathlib.Core.Path.{_≡_};
 ghost use mathlib.Core.List.{List};
 ghost use Prim.Native.Nat.{ℕ, _≤_, _<_};
@@ -10,39 +10,39 @@ ghost use lib.Ieee.{Float};
 ghost use lib.Dec.{leb};
 ghost use lib.ListN.{length};
 ghost use Rattle.buffer.specs.Map.{all};
-ghost use Rattle.registry.specs.Store.{treeOf};
+ghost use Rattle.registry.specs.Store.{usedIn, treeOf};
 ghost use Rattle.registry.specs.Sound.{noCircle};
 ghost use Rattle.registry.specs.Calls.{storeOf};
-ghost use Rattle.registry.specs.layout.Rows.{RisingRows};
-ghost use Rattle.registry.specs.soundness.Climbs.{IsUp, Climbed, onward, movedOn};
+ghost use Rattle.registry.specs.layout.Rows.{headOf, RisingRows};
+ghost use Rattle.registry.specs.soundness.Climbs.{IsUp, Climbed, jump, jumped};
 
-// The row of the parent of row r, or `used` where the parent is no child.
-fn parent_row(head: &[u64], used: usize, r: usize) -> usize
-    requires { ⌜ RisingRows used (now head) × (r < used) ⌝ }
-    ensures { λ x. ⌜ IsUp used (now (head .entry)) 1 r x ⌝ }
+// The row of the parent of row r, or the number of rows used where the parent is no child.
+fn parent_row(head: &[u64], r: usize) -> usize
+    requires { ⌜ RisingRows (now head) × (r < usedIn (headOf (now head))) ⌝ }
+    ensures { λ x. ⌜ IsUp (now (head .entry)) 1 r x ⌝ }
 {
-    let parent = head::parent_at(head, r);
-    let Found::At(row) = find::find_row(head, used, parent) else {
-        return used;
+    let parent = layout::parent_at(head, r);
+    let Found::At(row) = search::find_row(head, parent) else {
+        return layout::used(head);
     };
     row
 }
 
 // One step up from each row.
-fn parent_rows(head: &[u64], used: usize, rows: &mut [usize])
-    requires { ⌜ RisingRows used (now head) × (length (now rows) ≡ used) ⌝ }
-    ensures { λ _. ⌜ Climbed used (now (head .entry)) 1 (now (rows .exit)) ⌝ }
+fn parent_rows(head: &[u64], rows: &mut [usize])
+    requires { ⌜ RisingRows (now head) × (length (now rows) ≡ usedIn (headOf (now head))) ⌝ }
+    ensures { λ _. ⌜ Climbed (now (head .entry)) 1 (now (rows .exit)) ⌝ }
 {
     let mut r = 0;
-    while r < used {
-        rows[r] = parent_row(head, used, r);
+    while r < rows.len() {
+        rows[r] = parent_row(head, r);
         r += 1;
     }
 }
 
 // Where the climb from row x stands; past the rows it has ended.
-fn onward(rows: &[usize], x: usize) -> usize
-    ensures { λ r. ⌜ r ≡ onward (now (rows .entry)) x ⌝ }
+fn jump(rows: &[usize], x: usize) -> usize
+    ensures { λ r. ⌜ r ≡ jump (now (rows .entry)) x ⌝ }
 {
     if x < rows.len() {
         return rows[x];
@@ -52,11 +52,11 @@ fn onward(rows: &[usize], x: usize) -> usize
 
 // At least twice as many steps up from each row.
 fn double(rows: &mut [usize])
-    ensures { λ _. ⌜ now (rows .exit) ≡ movedOn (length (now (rows .entry))) (now (rows .entry)) ⌝ }
+    ensures { λ _. ⌜ now (rows .exit) ≡ jumped (length (now (rows .entry))) (now (rows .entry)) ⌝ }
 {
     let mut r = 0;
     while r < rows.len() {
-        let x = onward(rows, rows[r]);
+        let x = jump(rows, rows[r]);
         rows[r] = x;
         r += 1;
     }
@@ -77,23 +77,24 @@ fn all_ended(rows: &[usize]) -> bool
 }
 
 // Whether the climb from each row ends, with room for a number for each row.
-fn climbs_end(head: &[u64], used: usize, rows: &mut [usize]) -> bool
-    requires { ⌜ RisingRows used (now head) × (length (now rows) ≡ used) ⌝ }
+fn climbs_end(head: &[u64], rows: &mut [usize]) -> bool
+    requires { ⌜ RisingRows (now head) × (length (now rows) ≡ usedIn (headOf (now head))) ⌝ }
     ensures { λ r. ⌜ ((instants : List ℕ) (poses : List Float) → r ≡ noCircle (treeOf (storeOf (now (head .entry)) instants poses))) ⌝ }
 {
-    parent_rows(head, used, rows);
+    parent_rows(head, rows);
     let mut steps = 1;
-    while steps < used {
+    while steps < rows.len() {
         double(rows);
         steps *= 2;
     }
     all_ended(rows)
 }
 
-pub(crate) fn no_circle(head: &[u64], used: usize) -> bool
-    requires { ⌜ RisingRows used (now head) × (used ≤ 256) ⌝ }
+pub(crate) fn no_circle(head: &[u64]) -> bool
+    requires { ⌜ RisingRows (now head) × (usedIn (headOf (now head)) ≤ 256) ⌝ }
     ensures { λ r. ⌜ ((instants : List ℕ) (poses : List Float) → r ≡ noCircle (treeOf (storeOf (now (head .entry)) instants poses))) ⌝ }
 {
+    let used = layout::used(head);
     let mut rows = [0usize; 256];
-    climbs_end(head, used, &mut rows[..used])
+    climbs_end(head, &mut rows[..used])
 }

@@ -1,5 +1,5 @@
 // Refusal 1: E, S and the lengths of the three slices.
-use crate::layout::head;
+use crate::layout;
 ghost use mathlib.Core.Path.{_≡_};
 ghost use Rattle.registry.specs.Store.{sizesFit, sized};
 ghost use Rattle.registry.specs.Calls.{storeOf};
@@ -10,9 +10,9 @@ pub(crate) fn sizes_fit(
     instants: &[u64],
     poses: &[f64],
     rows: u64,
-    places: u64,
+    capacity: u64,
 ) -> bool
-    ensures { λ r. ⌜ r ≡ sizesFit rows places (storeOf (now (head .entry)) (now (instants .entry)) (now (poses .entry))) ⌝ }
+    ensures { λ r. ⌜ r ≡ sizesFit rows capacity (storeOf (now (head .entry)) (now (instants .entry)) (now (poses .entry))) ⌝ }
 {
     if rows < 1 {
         return false;
@@ -20,30 +20,35 @@ pub(crate) fn sizes_fit(
     if 256 < rows {
         return false;
     }
-    if places < 1 {
+    if capacity < 1 {
         return false;
     }
-    if 1024 < places {
+    if 1024 < capacity {
         return false;
     }
-    let words = rows * places;
-    if head.len() != head::word_place(rows as usize, 0) {
+    let rows = rows as usize;
+    let capacity = capacity as usize;
+    if head.len() != layout::head_length(rows) {
         return false;
     }
-    if instants.len() as u64 != words {
+    if instants.len() != layout::instants_length(rows, capacity) {
         return false;
     }
-    poses.len() as u64 == 7 * words
+    poses.len() == layout::poses_length(rows, capacity)
 }
 
 // The same of a store that is lent, by its own sizes.
 pub(crate) fn sized(head: &[u64], instants: &[u64], poses: &[f64]) -> bool
     ensures { λ r. ⌜ r ≡ sized (storeOf (now (head .entry)) (now (instants .entry)) (now (poses .entry))) ⌝ }
 {
-    if head.len() < head::OWN {
+    if !layout::has_header(head) {
         return false;
     }
-    let rows = head[head::ROWS];
-    let places = head[head::PLACES];
-    sizes_fit(head, instants, poses, rows, places)
+    sizes_fit(
+        head,
+        instants,
+        poses,
+        layout::rows(head),
+        layout::capacity(head),
+    )
 }

@@ -1,5 +1,5 @@
 // The rule that every unused word is 0, positive zero for floats: the unused rows.
-use crate::layout::head;
+use crate::layout;
 use buffer::sound;
 ghost use mathlib.Core.Path.{_≡_};
 ghost use Rattle.registry.specs.Sound.{unusedRowsZero};
@@ -10,16 +10,13 @@ pub(crate) fn unused_rows_zero(head: &[u64], instants: &[u64], poses: &[f64]) ->
     requires { ⌜ UsedParts (storeOf (now head) (now instants) (now poses)) ⌝ }
     ensures { λ r. ⌜ r ≡ unusedRowsZero (storeOf (now (head .entry)) (now (instants .entry)) (now (poses .entry))) ⌝ }
 {
-    let used = head[head::USED] as usize;
-    let places = head[head::PLACES] as usize;
-    let row = head::word_place(used, 0);
-    if !sound::zero_words(&head[row..]) {
+    let used = layout::used(head);
+    let capacity = layout::capacity(head) as usize;
+    if !sound::zero_words(layout::head_after(head, used)) {
         return false;
     }
-    let instant = used * places;
-    if !sound::zero_words(&instants[instant..]) {
+    if !sound::zero_words(layout::instants_after(instants, used, capacity)) {
         return false;
     }
-    let float = 7 * instant;
-    sound::zero_floats(&poses[float..])
+    sound::zero_floats(layout::poses_after(poses, used, capacity))
 }

@@ -1,7 +1,7 @@
 -- `answers::write::write_refusal` meets its contract. Assumes nothing.
 use borrow.Author.Needs.{needs}
 use mathlib.Core.List.{[], _∷_, _++_}
-use Rattle.answers.specs.Meaning.{carriedBy}
+use Rattle.registry.specs.Answers.{carriedBy}
 use Rattle.answers.specs.Texts.{numberWord, carriedTexts}
 use Rattle.answers.proofs.Behind.{one, behind}
 use Rattle.answers.proofs.write.write_refusal.Statement.{statement}

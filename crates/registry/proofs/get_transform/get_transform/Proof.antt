@@ -2,8 +2,8 @@
 use mathlib.Core.Path.{_≡_, subst, _∙_}
 use borrow.Author.Needs.{needs}
 use Rattle.time.specs.Reply.{Reply}
-use Rattle.registry.specs.declared.soundness.check.Checked.{Checked}
-use Rattle.registry.specs.declared.soundness.check.Checked.the-variants.{Sizes, UnsoundStore, Sound}
+use Rattle.registry.specs.declared.check.Checked.{Checked}
+use Rattle.registry.specs.declared.check.Checked.the-variants.{Sizes, UnsoundStore, Sound}
 use Rattle.registry.specs.Tree.{Tree, Limits}
 use Rattle.registry.specs.Store.{Store}
 use Rattle.registry.specs.Answers.{Value}
@@ -37,8 +37,8 @@ enum-told-2 c = search needs
 enum-told-3 : tie.Need-enum-told-3
 enum-told-3 c = search needs
 
-resolve-requires : tie.Need-resolve-requires
-resolve-requires c κs = let k = c .before .before in found-sound (store (start k)) (checked k _ (c .enum-told3 .given .1))
+get-transform-requires : tie.Need-get-transform-requires
+get-transform-requires c κs = let k = c .before .before in found-sound (store (start k)) (checked k _ (c .enum-told3 .given .1))
 
 returns : tie.Need-returns
 unfolding lookupOf
@@ -59,7 +59,7 @@ unfolding lookupOf
 returns-3 c =
     let k = c .before .before .before in
     let s = start k in
-    c .resolve .ensures ∙ called (store s) Sound (checked k _ (c .before .enum-told3 .given .1)) (asked s)
+    c .get-transform .ensures ∙ called (store s) Sound (checked k _ (c .before .enum-told3 .given .1)) (asked s)
 
 pub get-transform-spec : {M : Type 1} → statement M
 get-transform-spec =
@@ -69,7 +69,7 @@ get-transform-spec =
     enum-told
     enum-told-2
     enum-told-3
-    resolve-requires
+    get-transform-requires
     returns
     returns-2
     returns-3)

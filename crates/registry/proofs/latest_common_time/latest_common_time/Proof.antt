@@ -2,15 +2,14 @@
 use mathlib.Core.Path.{_≡_, subst, _∙_}
 use borrow.Author.Needs.{needs}
 use Rattle.time.specs.Reply.{Reply}
-use Rattle.registry.specs.declared.soundness.check.Checked.{Checked}
-use Rattle.registry.specs.declared.soundness.check.Checked.the-variants.{Sizes, UnsoundStore, Sound}
+use Rattle.registry.specs.declared.check.Checked.{Checked}
+use Rattle.registry.specs.declared.check.Checked.the-variants.{Sizes, UnsoundStore, Sound}
 use Rattle.registry.specs.Tree.{Tree, Limits}
 use Rattle.registry.specs.Store.{Store}
 use Rattle.registry.specs.Answers.{Value}
 use Rattle.registry.specs.Calls.{storeOf, commonTimeOf}
 use Rattle.registry.specs.Path.{commonTime}
 use Rattle.registry.proofs.soundness.Called.{TestsFind, called, found-sound}
-use Rattle.registry.proofs.paths.SoundWalks.{sound-walkable}
 use Rattle.registry.proofs.latest_common_time.latest_common_time.Statement.{statement}
 use Rattle.registry.proofs.latest_common_time.latest_common_time.Tie as tie
 
@@ -38,8 +37,8 @@ enum-told-2 c = search needs
 enum-told-3 : tie.Need-enum-told-3
 enum-told-3 c = search needs
 
-common-time-requires : tie.Need-common-time-requires
-common-time-requires c κs = let k = c .before .before in sound-walkable (store (start k)) (found-sound (store (start k)) (checked k _ (c .enum-told3 .given .1)))
+latest-common-time-requires : tie.Need-latest-common-time-requires
+latest-common-time-requires c κs = let k = c .before .before in found-sound (store (start k)) (checked k _ (c .enum-told3 .given .1))
 
 returns : tie.Need-returns
 unfolding commonTimeOf
@@ -60,7 +59,7 @@ unfolding commonTimeOf
 returns-3 c =
     let k = c .before .before .before in
     let s = start k in
-    c .common-time .ensures (s .args .poses .now) ∙ called (store s) Sound (checked k _ (c .before .enum-told3 .given .1)) (asked s)
+    c .latest-common-time .ensures ∙ called (store s) Sound (checked k _ (c .before .enum-told3 .given .1)) (asked s)
 
 pub latest-common-time-spec : {M : Type 1} → statement M
 latest-common-time-spec =
@@ -70,7 +69,7 @@ latest-common-time-spec =
     enum-told
     enum-told-2
     enum-told-3
-    common-time-requires
+    latest-common-time-requires
     returns
     returns-2
     returns-3)

@@ -1,10 +1,11 @@
 -- `registry::remove_before::remove_before` meets its contract: 1, 2, or the wipe of a store that is sized and sound.
-use mathlib.Core.Path.{_≡_, subst}
+use mathlib.Core.Path.{_≡_, subst, _∙_}
 use borrow.Author.Needs.{needs}
-use Rattle.registry.specs.declared.soundness.check.Checked.{Checked}
-use Rattle.registry.specs.declared.soundness.check.Checked.the-variants.{Sizes, UnsoundStore}
+use Rattle.time.specs.Reply.{Reply}
+use Rattle.registry.specs.declared.check.Checked.{Checked}
+use Rattle.registry.specs.declared.check.Checked.the-variants.{Sizes, UnsoundStore, Sound}
+use Rattle.registry.specs.Tree.{Tree, Limits, wipe}
 use Rattle.registry.specs.Store.{Store}
-use Rattle.registry.specs.Tree.{wipe}
 use Rattle.registry.specs.Calls.{storeOf, wipeOf}
 use Rattle.registry.proofs.soundness.Called.{TestsFind, written-called, found-sound}
 use Rattle.registry.proofs.remove_before.remove_before.Statement.{statement}
@@ -15,6 +16,9 @@ store s = storeOf (s .args .head .now) (s .args .instants .now) (s .args .poses 
 
 abbrev start : tie.After-check → tie.Start
 start c = c .before .before .before .before .before .before .before
+
+abbrev asked : tie.Start → Limits → Tree → Reply Tree
+asked s L t = wipe t (s .args .child) (s .args .t)
 
 checked : (c : tie.After-check) (r : Checked) → c .check .result ≡ r → TestsFind (store (start c)) r
 checked c r e = subst (TestsFind (store (start c))) e (c .check .ensures)
@@ -31,8 +35,8 @@ enum-told-2 c = search needs
 enum-told-3 : tie.Need-enum-told-3
 enum-told-3 c = search needs
 
-wipe-requires : tie.Need-wipe-requires
-wipe-requires c κs = let m = c .before .before .before in let k = m .before .before in found-sound (store (start k)) (checked k _ (m .enum-told3 .given .1))
+remove-before-requires : tie.Need-remove-before-requires
+remove-before-requires c κs = let m = c .before .before .before in let k = m .before .before in found-sound (store (start k)) (checked k _ (m .enum-told3 .given .1))
 
 same-length : tie.Need-same-length
 same-length c = search needs
@@ -45,10 +49,7 @@ same-length-3 c = search needs
 
 returns : tie.Need-returns
 unfolding wipeOf
-returns c =
-    let k = c .before .before in
-    let s = start k in
-    written-called (store s) Sizes (checked k _ (c .enum-told .given .1)) (λ L t. wipe t (s .args .child) (s .args .t))
+returns c = let k = c .before .before in let s = start k in written-called (store s) Sizes (checked k _ (c .enum-told .given .1)) (asked s)
 
 same-length-4 : tie.Need-same-length-4
 same-length-4 c = search needs
@@ -61,10 +62,7 @@ same-length-6 c = search needs
 
 returns-2 : tie.Need-returns-2
 unfolding wipeOf
-returns-2 c =
-    let k = c .before .before in
-    let s = start k in
-    written-called (store s) UnsoundStore (checked k _ (c .enum-told2 .given .1)) (λ L t. wipe t (s .args .child) (s .args .t))
+returns-2 c = let k = c .before .before in let s = start k in written-called (store s) UnsoundStore (checked k _ (c .enum-told2 .given .1)) (asked s)
 
 same-length-7 : tie.Need-same-length-7
 same-length-7 c = search needs
@@ -76,7 +74,13 @@ same-length-9 : tie.Need-same-length-9
 same-length-9 c = search needs
 
 returns-3 : tie.Need-returns-3
-returns-3 c = search needs
+unfolding wipeOf
+returns-3 c =
+    let w = c .before .before .before .before .before .before in
+    let m = w .before .before .before .before in
+    let k = m .before .before in
+    let s = start k in
+    w .remove-before .ensures ∙ written-called (store s) Sound (checked k _ (m .enum-told3 .given .1)) (asked s)
 
 pub remove-before-spec : {M : Type 1} → statement M
 remove-before-spec =
@@ -86,7 +90,7 @@ remove-before-spec =
     enum-told
     enum-told-2
     enum-told-3
-    wipe-requires
+    remove-before-requires
     same-length
     same-length-2
     same-length-3

@@ -1,38 +1,38 @@
 -- `transforms_c::lengths::transforms_instants_len` meets its contract: the first test that fails decides.
-use mathlib.Core.Path.{_≡_}
+use mathlib.Core.Path.{_≡_, sym, _∙_}
 use mathlib.Core.Bool.{true}
-use native.Mathlib.Omega.{arith}
-use borrow.Author.Tests.{le-leb, lt-leb}
-use Rattle.buffer.proofs.Cases.{and-both}
-use Rattle.transforms_c.specs.Lengths.{rowsFit}
-use Rattle.transforms_c.proofs.Areas.{area}
+use borrow.Author.Needs.{needs}
+use borrow.Author.Tests.{not-true, not-false}
+use Rattle.registry.proofs.layout.RowLaws.{instants-small}
+use Rattle.transforms_c.specs.Lengths.{rowsFit, capacityFits}
+use Rattle.transforms_c.proofs.Areas.{few-rows, few-samples}
 use Rattle.transforms_c.proofs.lengths.transforms_instants_len.Statement.{statement}
 use Rattle.transforms_c.proofs.lengths.transforms_instants_len.Tie as tie
 
--- past the tests of the rows
-rows-fit : (c : tie.Else2) → rowsFit (c .before .before .args .rows) ≡ true
-rows-fit c = and-both _ _ (le-leb 1 _ (c .before .if1 .left)) (le-leb _ 256 (c .if2 .left))
+rows : (c : tie.Else1) → rowsFit (c .before .before .args .rows) ≡ true
+rows c = sym (c .before .rows-fit .ensures) ∙ not-false _ (c .if1 .left)
+
+samples : (c : tie.Else2) → capacityFits (c .before .before .before .before .args .samples) ≡ true
+samples c = sym (c .before .samples-fit .ensures) ∙ not-false _ (c .if2 .left)
+
+rows-fit-requires : tie.Need-rows-fit-requires
+rows-fit-requires c κs = search needs
 
 returns : tie.Need-returns
-returns c = rw (lt-leb 1 _ (c .if1 .taken))
+returns c = rw (sym (c .before .rows-fit .ensures) ∙ not-true _ (c .if1 .taken))
+
+samples-fit-requires : tie.Need-samples-fit-requires
+samples-fit-requires c κs = search needs
 
 returns-2 : tie.Need-returns-2
-returns-2 c = rw (le-leb 1 _ (c .before .if1 .left), lt-leb _ 256 (c .if2 .taken))
+returns-2 c = rw (rows (c .before .before), sym (c .before .samples-fit .ensures) ∙ not-true _ (c .if2 .taken))
+
+instants-length-requires : tie.Need-instants-length-requires
+instants-length-requires c κs = instants-small _ _ (few-rows _ (rows (c .before .before))) (few-samples _ (samples c))
 
 returns-3 : tie.Need-returns-3
-returns-3 c = rw (rows-fit (c .before), lt-leb 1 _ (c .if3 .taken))
-
-returns-4 : tie.Need-returns-4
-returns-4 c = rw (rows-fit (c .before .before), le-leb 1 _ (c .before .if3 .left), lt-leb _ 1024 (c .if4 .taken))
-
-mul-result : tie.Need-mul-result
-mul-result c =
-    let a = c .before .before .before .before .args in
-    omega (arith, area (a .rows) (a .samples) (omega arith) (omega arith))
-
-returns-5 : tie.Need-returns-5
-returns-5 c = rw (rows-fit (c .before .before), le-leb 1 _ (c .before .if3 .left), le-leb _ 1024 (c .if4 .left))
+returns-3 c = rw (rows (c .before .before .before), samples (c .before)) (c .instants-length .ensures)
 
 pub transforms-instants-len-spec : {M : Type 1} → statement M
 transforms-instants-len-spec =
-    tie.close (tie.spec returns returns-2 returns-3 returns-4 mul-result returns-5)
+    tie.close (tie.spec rows-fit-requires returns samples-fit-requires returns-2 instants-length-requires returns-3)

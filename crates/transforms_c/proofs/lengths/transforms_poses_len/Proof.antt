@@ -1,21 +1,38 @@
--- `transforms_c::lengths::transforms_poses_len` meets its contract.
-use native.Mathlib.Omega.{arith}
+-- `transforms_c::lengths::transforms_poses_len` meets its contract: the first test that fails decides.
+use mathlib.Core.Path.{_≡_, sym, _∙_}
+use mathlib.Core.Bool.{true}
 use borrow.Author.Needs.{needs}
-use Rattle.transforms_c.proofs.Areas.{instants-few}
+use borrow.Author.Tests.{not-true, not-false}
+use Rattle.registry.proofs.layout.RowLaws.{poses-small}
+use Rattle.transforms_c.specs.Lengths.{rowsFit, capacityFits}
+use Rattle.transforms_c.proofs.Areas.{few-rows, few-samples}
 use Rattle.transforms_c.proofs.lengths.transforms_poses_len.Statement.{statement}
 use Rattle.transforms_c.proofs.lengths.transforms_poses_len.Tie as tie
 
-transforms-instants-len-requires : tie.Need-transforms-instants-len-requires
-transforms-instants-len-requires c κs = search needs
+rows : (c : tie.Else1) → rowsFit (c .before .before .args .rows) ≡ true
+rows c = sym (c .before .rows-fit .ensures) ∙ not-false _ (c .if1 .left)
 
-mul-result : tie.Need-mul-result
-mul-result c =
-    let a = c .before .args in
-    omega (arith, c .transforms-instants-len .ensures, instants-few (a .rows) (a .samples))
+samples : (c : tie.Else2) → capacityFits (c .before .before .before .before .args .samples) ≡ true
+samples c = sym (c .before .samples-fit .ensures) ∙ not-false _ (c .if2 .left)
+
+rows-fit-requires : tie.Need-rows-fit-requires
+rows-fit-requires c κs = search needs
 
 returns : tie.Need-returns
-returns c = rw (c .transforms-instants-len .ensures)
+returns c = rw (sym (c .before .rows-fit .ensures) ∙ not-true _ (c .if1 .taken))
+
+samples-fit-requires : tie.Need-samples-fit-requires
+samples-fit-requires c κs = search needs
+
+returns-2 : tie.Need-returns-2
+returns-2 c = rw (rows (c .before .before), sym (c .before .samples-fit .ensures) ∙ not-true _ (c .if2 .taken))
+
+poses-length-requires : tie.Need-poses-length-requires
+poses-length-requires c κs = poses-small _ _ (few-rows _ (rows (c .before .before))) (few-samples _ (samples c))
+
+returns-3 : tie.Need-returns-3
+returns-3 c = rw (rows (c .before .before .before), samples (c .before)) (c .poses-length .ensures)
 
 pub transforms-poses-len-spec : {M : Type 1} → statement M
 transforms-poses-len-spec =
-    tie.close (tie.spec transforms-instants-len-requires mul-result returns)
+    tie.close (tie.spec rows-fit-requires returns samples-fit-requires returns-2 poses-length-requires returns-3)

@@ -12,7 +12,7 @@ use Rattle.registry.specs.Tree.{Edge, sameKind}
 use Rattle.registry.specs.Store.{rowAt}
 use Rattle.registry.specs.Answers.{Value, done, replyOf}
 use Rattle.registry.specs.Calls.{storeOf}
-use Rattle.registry.specs.addition.Adding.{posed}
+use Rattle.registry.specs.addition.Adding.{poseTests}
 use Rattle.registry.proofs.addition.Admitting.{held-tested, held-other, held-kind}
 use Rattle.registry.proofs.addition.admit.admit_held.Statement.{statement}
 use Rattle.registry.proofs.addition.admit.admit_held.Tie as tie
@@ -20,7 +20,7 @@ use Rattle.registry.proofs.addition.admit.admit_held.Tie as tie
 abbrev edge : tie.Start → List ℕ → List Float → Edge
 edge s i p = rowAt (storeOf (s .args .head .now) i p) (s .args .r) .1
 
-passes : (c : tie.After-enum-told) → (let s = c .before .before .before .before in answer done ≡ posed (s .args .child) (s .args .parent) (s .args .pose) (answer done))
+passes : (c : tie.After-enum-told) → (let s = c .before .before .before .before in answer done ≡ poseTests (s .args .child) (s .args .parent) (s .args .pose) (answer done))
 passes c = sym (ap replyOf (c .enum-told .given .1)) ∙ c .before .before .test-pose .ensures
 
 same-parent : (c : tie.Else1) → (let s = c .before .before .before .before .before .before in (i : List ℕ) (p : List Float) → eqb (edge s i p .parent) (s .args .parent) ≡ true)

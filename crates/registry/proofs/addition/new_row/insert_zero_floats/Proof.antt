@@ -1,6 +1,6 @@
 use borrow.Author.Needs.{needs}
 use Rattle.time.specs.Float.{zero64}
-use Rattle.registry.proofs.addition.RowInserting.{zeros-put}
+use Rattle.registry.proofs.layout.RowInserting.{zeros-put}
 use Rattle.registry.proofs.addition.new_row.insert_zero_floats.Statement.{statement}
 use Rattle.registry.proofs.addition.new_row.insert_zero_floats.Tie as tie
 

@@ -1,5 +1,5 @@
 use borrow.Author.Needs.{needs}
-use Rattle.registry.proofs.addition.RowInserting.{zeros-put}
+use Rattle.registry.proofs.layout.RowInserting.{zeros-put}
 use Rattle.registry.proofs.addition.new_row.insert_zero_words.Statement.{statement}
 use Rattle.registry.proofs.addition.new_row.insert_zero_words.Tie as tie
 

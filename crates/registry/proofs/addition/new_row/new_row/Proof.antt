@@ -1,55 +1,57 @@
--- `registry::addition::new_row::new_row` meets its contract.
-use Prim.Native.Nat.{_*_, _≤_}
-use mathlib.Core.Path.{refl}
-use native.Mathlib.Nat.{mul-le-mul-right}
 use native.Mathlib.Omega.{arith}
-use lib.ListN.{getD}
 use borrow.Author.Needs.{needs}
+use Rattle.registry.specs.Store.{Store, usedIn}
 use Rattle.registry.specs.Calls.{storeOf}
-use Rattle.registry.proofs.addition.RowInserting.{with-row}
+use Rattle.registry.specs.layout.Rows.{headOf, HasHeader}
+use Rattle.registry.proofs.layout.RowLaws.{row-header}
+use Rattle.registry.proofs.layout.RowInserting.{with-row, Room, room-read}
 use Rattle.registry.proofs.addition.new_row.new_row.Statement.{statement}
 use Rattle.registry.proofs.addition.new_row.new_row.Tie as tie
 
--- the new row lies before the end of the used ones
-before : (s : tie.Start) → (let S = getD (s .args .head .now) 1 0 in s .args .k * S ≤ getD (s .args .head .now) 2 0 * S)
-before s = mul-le-mul-right (getD (s .args .head .now) 1 0) (s .pre .place)
+abbrev start : tie.After-used → tie.Start
+start u = u .before .before .before .before .before .before .before
 
-abbrev start : tie.After-insert-row → tie.Start
-start c = c .before .before .before .before .before .before .before
+abbrev store : tie.After-used → Store
+store u = let a = start u .args in storeOf (a .head .now) (a .instants .now) (a .poses .now)
 
-slice-read-places : tie.Need-slice-read-places
-slice-read-places c = search needs
+header : (s : tie.Start) → HasHeader (s .args .head .now)
+header s = let h = s .args .head .now in row-header h (usedIn (headOf h)) (s .pre .part .head)
 
-slice-read-used : tie.Need-slice-read-used
-slice-read-used c = search needs
+room : (u : tie.After-used) → Room (start u .args .k) (u .used .result) (u .before .before .capacity .result) (store u)
+room u = room-read (start u .args .k) _ _ (store u) (start u .pre) (u .before .before .capacity .ensures) (u .used .ensures)
+
+abbrev used : tie.After-insert-zero-floats-arg → tie.After-used
+used c = c .before .before .before .before .before .before .before .before .before .before .before
+
+capacity-requires : tie.Need-capacity-requires
+capacity-requires c κs = header (c .before .before .before .before)
+
+used-requires : tie.Need-used-requires
+used-requires c κs = header (c .before .before .before .before .before .before)
 
 insert-row-requires : tie.Need-insert-row-requires
 insert-row-requires c κs = search needs
 
-mul-at : tie.Need-mul-at
-mul-at c = omega (arith, before (start (c .before .before)))
+instants-length-requires : tie.Need-instants-length-requires
+instants-length-requires c κs = omega (arith, room (c .before .before .before .before .before))
 
-mul-end : tie.Need-mul-end
-mul-end c = search needs
+instants-length-requires-2 : tie.Need-instants-length-requires-2
+instants-length-requires-2 c κs = omega (arith, room (c .before .before .before .before .before .before))
 
 insert-zero-words-requires : tie.Need-insert-zero-words-requires
-insert-zero-words-requires c κs =
-    let s = start (c .before .before .before) in
-    (before s, s .pre .instants)
+insert-zero-words-requires c κs = omega (arith, room (c .before .before .before .before .before .before .before))
 
-mul-insert-zero-floats : tie.Need-mul-insert-zero-floats
-mul-insert-zero-floats c = omega (arith, before (start (c .before .before .before .before .before .before .before)))
+poses-length-requires : tie.Need-poses-length-requires
+poses-length-requires c κs = omega (arith, room (used c))
 
-mul-insert-zero-floats-2 : tie.Need-mul-insert-zero-floats-2
-mul-insert-zero-floats-2 c = search needs
+poses-length-requires-2 : tie.Need-poses-length-requires-2
+poses-length-requires-2 c κs = omega (arith, room (used (c .before)))
 
-mul-insert-zero-floats-3 : tie.Need-mul-insert-zero-floats-3
-mul-insert-zero-floats-3 c = search needs
+row-floats-requires : tie.Need-row-floats-requires
+row-floats-requires c κs = omega (arith, room (used (c .before .before)))
 
 insert-zero-floats-requires : tie.Need-insert-zero-floats-requires
-insert-zero-floats-requires c κs =
-    let s = start (c .before .before .before .before .before .before .before) in
-    (omega (arith, before s), s .pre .poses)
+insert-zero-floats-requires c κs = let u = used (c .before .before .before) in omega (arith, room u)
 
 same-length : tie.Need-same-length
 same-length c = search needs
@@ -62,25 +64,28 @@ same-length-3 c = search needs
 
 returns : tie.Need-returns
 returns c =
-    let h = c .before .before .before .before .before .before .before .before .before .before in
-    let s = start h in
-    let a = s .args in
-    with-row (a .k) (a .child) (a .parent) (a .kind) (storeOf (a .head .now) (a .instants .now) (a .poses .now)) _ _ _ _ _ refl refl
-    (h .insert-row .ensures) (c .before .before .before .before .before .before .insert-zero-words .ensures) (c .before .before .insert-zero-floats .ensures)
+    let f = c .before .before in
+    let w = f .before .before .before .before .before .before .before in
+    let h = w .before .before .before .before .before .before in
+    let u = h .before .before in
+    let a = start u .args in
+    with-row (a .k) (a .child) (a .parent) (a .kind) (store u) _ _ (u .before .before .capacity .ensures) (u .used .ensures) _ _ _ _ _ _ _ _
+    (w .before .before .instants-length .ensures) (w .before .instants-length2 .ensures) (f .before .before .before .poses-length .ensures) (f .before .before .poses-length2 .ensures)
+    (f .before .row-floats .ensures) (h .insert-row .ensures) (w .insert-zero-words .ensures) (f .insert-zero-floats .ensures)
 
 pub new-row-spec : {M : Type 1} → statement M
 new-row-spec =
     tie.close
     (tie.spec
-    slice-read-places
-    slice-read-used
+    capacity-requires
+    used-requires
     insert-row-requires
-    mul-at
-    mul-end
+    instants-length-requires
+    instants-length-requires-2
     insert-zero-words-requires
-    mul-insert-zero-floats
-    mul-insert-zero-floats-2
-    mul-insert-zero-floats-3
+    poses-length-requires
+    poses-length-requires-2
+    row-floats-requires
     insert-zero-floats-requires
     same-length
     same-length-2

@@ -1,13 +1,13 @@
--- `registry::addition::put::add_held` meets its contract: a test refuses, or the row is grown.
+-- `registry::addition::put::add_held` meets its contract: a test refuses, or the row is updatedEdge.
 use mathlib.Core.Path.{sym, ap, _∙_}
 use mathlib.Core.Option.{some}
 use borrow.Author.Needs.{needs}
 use Rattle.registry.specs.Tree.{addition}
-use Rattle.registry.specs.Store.{Store, rowAt, treeOf, limitsOf}
+use Rattle.registry.specs.Store.{Store, limitsOf, edgeAt, treeOf}
 use Rattle.registry.specs.Answers.{replyOf}
 use Rattle.registry.specs.Calls.{storeOf}
 use Rattle.registry.proofs.soundness.SoundStore.{sound-part, sound-parent}
-use Rattle.registry.proofs.addition.EncodedRows.{sound-held}
+use Rattle.registry.proofs.layout.StoredRows.{sound-held}
 use Rattle.registry.proofs.addition.AddWritten.{refused-written, held-get, held-written}
 use Rattle.registry.proofs.addition.put.add_held.Statement.{statement}
 use Rattle.registry.proofs.addition.put.add_held.Tie as tie
@@ -31,7 +31,7 @@ returns : tie.Need-returns
 returns c =
     let s = c .before .before .before .before .before .before in
     let z = store s in
-    refused-written (limitsOf z) (treeOf z) (addition (s .args .child) (s .args .parent) (s .args .stamp) (s .args .pose)) (some (rowAt z (s .args .r) .1))
+    refused-written (limitsOf z) (treeOf z) (addition (s .args .child) (s .args .parent) (s .args .stamp) (s .args .pose)) (some (edgeAt z (s .args .r)))
     (held-get z (s .pre .0) (s .args .child) (s .args .parent) (s .args .stamp) (s .args .pose) (s .args .r) (s .pre .1))
     z (c .before .admit-held .result) (c .match .keys2) (c .before .admit-held .ensures (limitsOf z) (treeOf z) (z .instants) (z .poses))
 
@@ -43,7 +43,7 @@ put-row-requires c κs =
     let k = c .before .before .before .before .before .before .before .before in
     let s = k .before .before .before in
     let l = s .pre .1 .used in
-    (sound-part (store s) (s .pre .0) (s .args .r) l, sound-held (store s) (s .pre .0) (k .slice-known3 .given) (s .args .r) l)
+    sound-held (store s) (s .pre .0) (k .slice-known3 .given) (s .args .r) l
 
 same-length-2 : tie.Need-same-length-2
 same-length-2 c = search needs

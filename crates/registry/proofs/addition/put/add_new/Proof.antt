@@ -5,14 +5,15 @@ use mathlib.Core.Option.{none}
 use borrow.Author.Needs.{needs}
 use Rattle.time.specs.Reply.{answer}
 use Rattle.registry.specs.Tree.{Addition, addition}
-use Rattle.registry.specs.Store.{Store, rowsIn, usedIn, treeOf, limitsOf}
+use Rattle.registry.specs.Store.{Store, rowsIn, usedIn, limitsOf, treeOf}
 use Rattle.registry.specs.Answers.{done, replyOf}
 use Rattle.registry.specs.Calls.{storeOf, written}
-use Rattle.registry.specs.layout.Rows.{RowPart}
-use Rattle.registry.specs.addition.Adding.{admits, EncodedRow, putInto}
+use Rattle.registry.specs.layout.Rows.{StoredRow, putInto}
+use Rattle.registry.specs.addition.Adding.{admits}
 use Rattle.registry.proofs.soundness.SoundStore.{sound-rows}
 use Rattle.registry.proofs.addition.Admitting.{admits-room}
-use Rattle.registry.proofs.addition.AddWritten.{refused-written, absent-get, row-room, new-asked, new-written}
+use Rattle.registry.proofs.addition.AddWritten.{refused-written, absent-get, new-written}
+use Rattle.registry.proofs.layout.NewRow.{row-room, new-asked}
 use Rattle.registry.proofs.addition.put.add_new.Statement.{statement}
 use Rattle.registry.proofs.addition.put.add_new.Tie as tie
 
@@ -71,7 +72,7 @@ put-row-requires c κs =
     let n = c .before .before .before .before .before .before .before .before .before .before in
     let t = n .before .before .before .before .before in
     let s = start t in
-    subst (λ (z : Store). RowPart (s .args .k) z × EncodedRow (s .args .k) z) (sym (n .new-row .ensures))
+    subst (StoredRow (s .args .k)) (sym (n .new-row .ensures))
     (new-asked (store s) (s .pre .0) (known t .slice-known3 .given) (s .args .k) (s .args .child) (s .args .parent) (n .before .kind-of .result) (s .pre .1) (room t))
 
 same-length-2 : tie.Need-same-length-2

@@ -7,7 +7,7 @@ use Rattle.registry.specs.Store.{Store, treeOf}
 use Rattle.registry.specs.Calls.{storeOf}
 use Rattle.registry.proofs.paths.Climbing.{Grounded}
 use Rattle.registry.proofs.paths.SideHops.{grounded}
-use Rattle.registry.proofs.paths.Tops.{EndAt}
+use Rattle.registry.proofs.paths.ClimbEnds.{EndAt}
 use Rattle.registry.proofs.common_time.CommonHops.{common-apart, common-meets, narrowed-is, agreed-is}
 use Rattle.registry.proofs.common_time.common.common_time_known.Statement.{statement}
 use Rattle.registry.proofs.common_time.common.common_time_known.Tie as tie
@@ -17,18 +17,18 @@ store c poses = storeOf (c .args .head .now) (c .args .instants .now) poses
 
 -- no circle
 ground : (s : tie.Start) (poses : List Float) → Grounded (treeOf (store s poses))
-ground s poses = grounded (store s poses) (s .args .used) (s .pre .rows) (s .pre .circles (s .args .instants .now) poses)
+ground s poses = grounded (store s poses) (s .pre .rows .rows) (s .pre .circles (s .args .instants .now) poses)
 
 -- where the two climbs end
-ends : (c : tie.After-meeting) (poses : List Float)
-    → (let s = c .before .before .before in EndAt (treeOf (store s poses)) (s .args .target) (s .args .source) (c .meeting .result .target) (c .meeting .result .source))
+ends : (c : tie.After-climb-ends) (poses : List Float)
+    → (let s = c .before .before .before in EndAt (treeOf (store s poses)) (s .args .target) (s .args .source) (c .climb-ends .result .target) (c .climb-ends .result .source))
 ends c poses =
     let s = c .before .before .before in
     let i = s .args .instants .now in
-    c .meeting .ensures i poses (s .pre .circles i poses)
+    c .climb-ends .ensures i poses (s .pre .circles i poses)
 
-meeting-requires : tie.Need-meeting-requires
-meeting-requires c κs = search needs
+climb-ends-requires : tie.Need-climb-ends-requires
+climb-ends-requires c κs = search needs
 
 returns : tie.Need-returns
 returns c poses =
@@ -92,7 +92,7 @@ pub common-time-known-spec : {M : Type 1} → statement M
 common-time-known-spec =
     tie.close
     (tie.spec
-    meeting-requires
+    climb-ends-requires
     returns
     narrow-chain-requires
     enum-known-climbed

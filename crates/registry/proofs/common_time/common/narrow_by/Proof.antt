@@ -1,7 +1,7 @@
 -- `registry::common_time::common::narrow_by` meets its contract.
 use mathlib.Core.Path.{ap}
 use Rattle.time.specs.Reply.{answer}
-use Rattle.registry.specs.common_time.Spans.{Sofar}
+use Rattle.registry.specs.common_time.Spans.{CommonSpan}
 use borrow.Author.Needs.{needs}
 use Rattle.registry.proofs.common_time.common.narrow_by.Statement.{statement}
 use Rattle.registry.proofs.common_time.common.narrow_by.Tie as tie
@@ -22,7 +22,7 @@ returns : tie.Need-returns
 returns c = rw (c .enum-told .given .1)
 
 returns-2 : tie.Need-returns-2
-returns-2 c = rw (c .before .before .coverage .given .1) (ap (λ (d : Sofar). answer d) (c .narrow .ensures))
+returns-2 c = rw (c .before .before .coverage .given .1) (ap (λ (d : CommonSpan). answer d) (c .narrow .ensures))
 
 returns-3 : tie.Need-returns-3
 returns-3 c = rw (c .enum-told2 .given .1)

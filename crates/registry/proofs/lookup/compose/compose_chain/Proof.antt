@@ -1,131 +1,105 @@
 -- `registry::lookup::compose::compose_chain` meets its contract. The invariant of its loop: the frame's side is what is below, and then the side from `at`.
-use mathlib.Core.Path.{refl, sym, subst}
+use mathlib.Core.Path.{_≡_, refl, sym, ap, _∙_}
+use mathlib.Core.Option.{none}
 use native.Mathlib.Omega.{arith}
 use borrow.Author.Needs.{needs}
 use lib.ListN.{length}
-use Rattle.registry.specs.Tree.{ancestors}
-use Rattle.registry.specs.Store.{Store, treeOf}
+use Rattle.time.specs.Reply.{_then_}
+use Rattle.registry.specs.declared.paths.edges.HopPose.{HopPose}
+use Rattle.registry.specs.Tree.{Tree, ancestors}
+use Rattle.registry.specs.Store.{treeOf}
 use Rattle.registry.specs.Calls.{storeOf}
-use Rattle.registry.specs.layout.Rows.{Finds, IsRow}
+use Rattle.registry.specs.Path.{fold}
+use Rattle.registry.specs.paths.Edges.{edgePose, poseRead}
+use Rattle.registry.specs.paths.Walks.{hopsTo}
 use Rattle.registry.specs.lookup.Sides.{sideOf}
-use Rattle.registry.proofs.paths.SideHops.{less-above}
-use Rattle.registry.proofs.lookup.Composing.{Composing, composing-root, composing-top, composing-hop}
+use Rattle.registry.proofs.paths.Climbing.{Grounded}
+use Rattle.registry.proofs.paths.SideHops.{grounded, less-above}
+use Rattle.registry.proofs.lookup.Composing.{foldOn, Composing, pose-parent, unserved-child, composing-top, composing-hop}
 use Rattle.registry.proofs.lookup.compose.compose_chain.Statement.{statement}
 use Rattle.registry.proofs.lookup.compose.compose_chain.Tie as tie
 
 abbrev Inv-loop : tie.InvT-loop
-Inv-loop head instants poses used frame top t at₀ below₀ at below = Composing (storeOf head instants poses) frame top t at (sideOf below)
+Inv-loop head instants poses frame top t at₀ below₀ at below = Composing (treeOf (storeOf head instants poses)) frame top t at (sideOf below)
 
 abbrev μ-loop : tie.MeasureT-loop
-μ-loop head instants poses used frame top t at₀ below₀ at below = length (ancestors (treeOf (storeOf head instants poses)) at)
+μ-loop head instants poses frame top t at₀ below₀ at below = length (ancestors (treeOf (storeOf head instants poses)) at)
 
--- a turn that finds a row
-abbrev start : tie.After-known-told Inv-loop μ-loop → tie.Start Inv-loop μ-loop
-start c = c .before .before .before .before .before .before .before .before .before
+abbrev tree : tie.Start Inv-loop μ-loop → Tree
+tree s = treeOf (storeOf (s .args .head .now) (s .args .instants .now) (s .args .poses .now))
 
-abbrev loop : tie.After-known-told Inv-loop μ-loop → tie.At-loop Inv-loop μ-loop
-loop c = c .before .before .before .before .before
+ground : (s : tie.Start Inv-loop μ-loop) → Grounded (tree s)
+ground s =
+    let a = s .args in
+    grounded (storeOf (a .head .now) (a .instants .now) (a .poses .now)) (s .pre .rows .rows) (s .pre .walk .circles (a .instants .now) (a .poses .now))
 
-abbrev store : tie.Start Inv-loop μ-loop → Store
-store c = storeOf (c .args .head .now) (c .args .instants .now) (c .args .poses .now)
+-- a turn of the loop
+abbrev start : tie.After-pose-of Inv-loop μ-loop → tie.Start Inv-loop μ-loop
+start c = c .before .before .before .before .before .before
 
-row : (c : tie.After-known-told Inv-loop μ-loop)
-    → (let a = start c .args in IsRow (a .used) (a .head .now) (loop c .loop .at) (c .before .found .given .0 .0))
-row c =
-    let a = start c .args in
-    subst (Finds (a .used) (a .head .now) (loop c .loop .at)) (c .before .found .given .1) (c .before .before .before .find-row .ensures)
+read : (c : tie.After-pose-of Inv-loop μ-loop) (v : HopPose) → c .pose-of .result ≡ v
+    → (let at = c .before .before .loop .at in poseRead at v ≡ edgePose (tree (start c)) at (start c .args .t))
+read c v told = sym (ap (poseRead (c .before .before .loop .at)) told) ∙ c .pose-of .ensures
+
+hop : (c : tie.After-pose-of Inv-loop μ-loop) (v : HopPose) → c .pose-of .result ≡ v
+    → (let s = start c in
+    let a = s .args in
+    let l = c .before .before .loop in
+    fold none (hopsTo (tree s) (a .frame) (a .top)) (a .t) ≡ (poseRead (l .at) v then foldOn (tree s) (a .top) (a .t) (sideOf (l .below))))
+hop c v told =
+    let s = start c in
+    let a = s .args in
+    let l = c .before .before .loop in
+    composing-hop (tree s) (a .frame) (a .top) (a .t) (l .at) (sideOf (l .below)) (l .inv) (ground s) (c .before .loop-test .taken) told (c .pose-of .ensures)
 
 loop-holds : tie.Need-loop-holds Inv-loop μ-loop
 loop-holds c = refl
 
-find-row-requires : tie.Need-find-row-requires Inv-loop μ-loop
-find-row-requires c κs = c .before .before .before .before .before .pre .walk .rows
-
-enum-known-found : tie.Need-enum-known-found Inv-loop μ-loop
-enum-known-found c = search needs
+pose-of-requires : tie.Need-pose-of-requires Inv-loop μ-loop
+pose-of-requires c κs = c .before .before .before .before .before .pre .rows
 
 enum-told : tie.Need-enum-told Inv-loop μ-loop
 enum-told c = search needs
 
 returns : tie.Need-returns Inv-loop μ-loop
-returns c =
-    let l = c .before .before .before .before in
-    let s = l .before .before .before .before in
-    let a = s .args in
-    composing-root (store s) (a .used) (s .pre) (a .frame) (a .top) (a .t) (l .loop .at) (sideOf (l .loop .below)) (l .loop .inv) _
-    (subst (Finds (a .used) (a .head .now) (l .loop .at)) (c .enum-told .given .1) (c .before .before .find-row .ensures))
+returns c = sym (hop (c .before .before) _ (c .enum-told .given .1))
 
-sample-requires : tie.Need-sample-requires Inv-loop μ-loop
-sample-requires c κs = start c .pre .held _ (row c .used)
+enum-known-covered : tie.Need-enum-known-covered Inv-loop μ-loop
+enum-known-covered c = search needs
 
-enum-known-got : tie.Need-enum-known-got Inv-loop μ-loop
-enum-known-got c = search needs
-
-enum-known-got-2 : tie.Need-enum-known-got-2 Inv-loop μ-loop
-enum-known-got-2 c = search needs
-
-cast-t19 : tie.Need-cast-t19 Inv-loop μ-loop
-cast-t19 c = let f = c .before .before .before .before in omega (arith, row f .child, start f .pre .walk .frames _ (row f .used))
+cast-t14 : tie.Need-cast-t14 Inv-loop μ-loop
+cast-t14 c =
+    let m = c .before .before .before in
+    let a = start m .args in
+    let at = m .before .before .loop .at in
+    let e = unserved-child (tree (start m)) at (a .t) _ _ (read m _ (c .before .covered .given .1)) in
+    omega (arith, start m .pre .walk .frames (a .instants .now) (a .poses .now) at (e .0) (e .1))
 
 returns-2 : tie.Need-returns-2 Inv-loop μ-loop
-returns-2 c =
-    let f = c .before .before .before .before in
-    let s = start f in
-    let a = s .args in
-    let l = loop f .loop in
-    sym
-    (composing-hop (store s) (a .used) (s .pre) (a .frame) (a .top) (a .t) (l .at) (sideOf (l .below)) (l .inv) _ (row f)
-    (f .before .before .before .before .loop-test .taken) _ _ (c .before .got2 .given .1) (c .before .before .before .sample .ensures (l .at)))
+returns-2 c = sym (hop (c .before .before .before) _ (c .before .covered .given .1))
 
-enum-told-2 : tie.Need-enum-told-2 Inv-loop μ-loop
-enum-told-2 c = search needs
-
-cast-t21 : tie.Need-cast-t21 Inv-loop μ-loop
-cast-t21 c = let f = c .before .before .before in omega (arith, row f .child, start f .pre .walk .frames _ (row f .used))
-
-returns-3 : tie.Need-returns-3 Inv-loop μ-loop
-returns-3 c =
-    let f = c .before .before .before in
-    let s = start f in
-    let a = s .args in
-    let l = loop f .loop in
-    sym
-    (composing-hop (store s) (a .used) (s .pre) (a .frame) (a .top) (a .t) (l .at) (sideOf (l .below)) (l .inv) _ (row f)
-    (f .before .before .before .before .loop-test .taken) _ _ (c .enum-told2 .given .1) (c .before .before .sample .ensures (l .at)))
+enum-known-pose : tie.Need-enum-known-pose Inv-loop μ-loop
+enum-known-pose c = search needs
 
 onto-requires : tie.Need-onto-requires Inv-loop μ-loop
 onto-requires c κs = search needs
 
-parent-at-requires : tie.Need-parent-at-requires Inv-loop μ-loop
-parent-at-requires c κs =
-    let f = c .before .before .before .before .before in
-    omega (arith, row f .used, start f .pre .walk .rows .rows .within)
-
 loop-less : tie.Need-loop-less Inv-loop μ-loop
 loop-less c =
-    let f = c .before .before .before .before .before .before in
-    let s = start f in
-    let a = s .args in
-    rw (c .parent-at .ensures)
-    (less-above (store s) (a .used) (s .pre .walk .rows) (s .pre .walk .circles (a .instants .now) (a .poses .now)) (loop f .loop .at) _ (row f))
+    let m = c .before .before .before .before in
+    let s = start m in
+    let at = m .before .before .loop .at in
+    less-above (tree s) (ground s) at _ (pose-parent (tree s) at (s .args .t) _ _ (read m _ (c .before .before .pose .given .1)))
 
 loop-again : tie.Need-loop-again Inv-loop μ-loop
-loop-again c =
-    let f = c .before .before .before .before .before .before in
-    let s = start f in
-    let a = s .args in
-    let l = loop f .loop in
-    rw (c .parent-at .ensures, c .before .onto .ensures)
-    (composing-hop (store s) (a .used) (s .pre) (a .frame) (a .top) (a .t) (l .at) (sideOf (l .below)) (l .inv) _ (row f)
-    (f .before .before .before .before .loop-test .taken) _ _ (c .before .before .before .got .given .1)
-    (c .before .before .before .before .before .sample .ensures (l .at)))
+loop-again c = rw (c .onto .ensures) (hop (c .before .before .before .before) _ (c .before .before .pose .given .1))
 
-returns-4 : tie.Need-returns-4 Inv-loop μ-loop
-returns-4 c =
-    let l = c .before .loop in
+returns-3 : tie.Need-returns-3 Inv-loop μ-loop
+returns-3 c =
     let s = c .before .before .before .before .before in
     let a = s .args in
-    composing-top (store s) (a .used) (s .pre) (a .frame) (a .top) (a .t) (l .at) (sideOf (l .below)) (l .inv) (c .loop-test .left)
+    let l = c .before .loop in
+    composing-top (tree s) (a .frame) (a .top) (a .t) (l .at) (sideOf (l .below)) (l .inv) (c .loop-test .left)
 
 pub compose-chain-spec : {M : Type 1} → statement M
 compose-chain-spec =
@@ -134,20 +108,14 @@ compose-chain-spec =
     Inv-loop
     μ-loop
     loop-holds
-    find-row-requires
-    enum-known-found
+    pose-of-requires
     enum-told
     returns
-    sample-requires
-    enum-known-got
-    enum-known-got-2
-    cast-t19
+    enum-known-covered
+    cast-t14
     returns-2
-    enum-told-2
-    cast-t21
-    returns-3
+    enum-known-pose
     onto-requires
-    parent-at-requires
     loop-less
     loop-again
-    returns-4)
+    returns-3)

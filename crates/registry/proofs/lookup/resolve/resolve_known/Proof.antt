@@ -5,8 +5,8 @@ use Rattle.registry.specs.Store.{Store, treeOf}
 use Rattle.registry.specs.Calls.{storeOf}
 use Rattle.registry.proofs.paths.Climbing.{Grounded}
 use Rattle.registry.proofs.paths.SideHops.{grounded}
-use Rattle.registry.proofs.paths.Tops.{EndAt}
-use Rattle.registry.proofs.lookup.LookupTops.{composed-is, lookup-tops, lookup-apart, lookup-meets}
+use Rattle.registry.proofs.paths.ClimbEnds.{EndAt}
+use Rattle.registry.proofs.lookup.LookupEnds.{composed-is, lookup-ends, lookup-apart, lookup-meets}
 use Rattle.registry.proofs.lookup.resolve.resolve_known.Statement.{statement}
 use Rattle.registry.proofs.lookup.resolve.resolve_known.Tie as tie
 
@@ -15,19 +15,19 @@ store c = storeOf (c .args .head .now) (c .args .instants .now) (c .args .poses 
 
 -- no circle
 ground : (s : tie.Start) → Grounded (treeOf (store s))
-ground s = let w = s .pre .walk in grounded (store s) (s .args .used) (w .rows) (w .circles (s .args .instants .now) (s .args .poses .now))
+ground s = grounded (store s) (s .pre .rows .rows) (s .pre .walk .circles (s .args .instants .now) (s .args .poses .now))
 
 -- where the two climbs end
-ends : (c : tie.After-meeting)
-    → (let s = c .before .before .before .before in EndAt (treeOf (store s)) (s .args .target) (s .args .source) (c .meeting .result .target) (c .meeting .result .source))
+ends : (c : tie.After-climb-ends)
+    → (let s = c .before .before .before .before in EndAt (treeOf (store s)) (s .args .target) (s .args .source) (c .climb-ends .result .target) (c .climb-ends .result .source))
 ends c =
     let s = c .before .before .before .before in
     let i = s .args .instants .now in
     let p = s .args .poses .now in
-    c .meeting .ensures i p (s .pre .walk .circles i p)
+    c .climb-ends .ensures i p (s .pre .walk .circles i p)
 
-meeting-requires : tie.Need-meeting-requires
-meeting-requires c κs = search needs
+climb-ends-requires : tie.Need-climb-ends-requires
+climb-ends-requires c κs = search needs
 
 compose-chain-requires : tie.Need-compose-chain-requires
 compose-chain-requires c κs = search needs
@@ -42,7 +42,7 @@ returns : tie.Need-returns
 returns c =
     let m = c .before .before .before .before in
     let s = m .before .before .before .before in
-    lookup-tops (treeOf (store s)) (ground s) (s .args .target) (s .args .source) _ _ (s .args .t) (ends m) _ _
+    lookup-ends (treeOf (store s)) (ground s) (s .args .target) (s .args .source) _ _ (s .args .t) (ends m) _ _
     (composed-is _ _ _ (c .before .climbed2 .given .1) (c .before .before .before .compose-chain .ensures)) refl
 
 compose-chain-requires-2 : tie.Need-compose-chain-requires-2
@@ -59,7 +59,7 @@ returns-2 c =
     let a = c .before .before .before .before .before in
     let m = a .before .before .before in
     let s = m .before .before .before .before in
-    lookup-tops (treeOf (store s)) (ground s) (s .args .target) (s .args .source) _ _ (s .args .t) (ends m) _ _
+    lookup-ends (treeOf (store s)) (ground s) (s .args .target) (s .args .source) _ _ (s .args .t) (ends m) _ _
     (composed-is _ _ _ (a .climbed .given .1) (a .before .before .compose-chain .ensures))
     (composed-is _ _ _ (c .before .climbed4 .given .1) (c .before .before .before .compose-chain2 .ensures))
 
@@ -91,7 +91,7 @@ pub resolve-known-spec : {M : Type 1} → statement M
 resolve-known-spec =
     tie.close
     (tie.spec
-    meeting-requires
+    climb-ends-requires
     compose-chain-requires
     enum-known-climbed
     enum-known-climbed-2

@@ -2,7 +2,7 @@
 use mathlib.Core.Path.{sym, _∙_}
 use borrow.Author.Needs.{needs}
 use borrow.Author.Tests.{not-true, not-false}
-use Rattle.registry.proofs.paths.AskTops.{asked-same, asked-no-target, asked-no-source, asked-known}
+use Rattle.registry.proofs.paths.AskEnds.{asked-same, asked-no-target, asked-no-source, asked-known}
 use Rattle.registry.proofs.paths.frames.find_frames.Statement.{statement}
 use Rattle.registry.proofs.paths.frames.find_frames.Tie as tie
 

@@ -1,23 +1,18 @@
 -- `registry::paths::frames::frame_exists` meets its contract.
-use mathlib.Core.Path.{_∙_, subst}
+use mathlib.Core.Path.{_∙_}
 use borrow.Author.Needs.{needs}
-use Rattle.registry.specs.layout.Rows.{Finds}
-use Rattle.registry.proofs.paths.TreeWalks.{known-found, known-absent}
+use Rattle.registry.proofs.paths.TreeWalks.{known-by}
 use Rattle.registry.proofs.paths.frames.frame_exists.Statement.{statement}
 use Rattle.registry.proofs.paths.frames.frame_exists.Tie as tie
 
-find-row-requires : tie.Need-find-row-requires
-find-row-requires c κs = search needs
+parent-of-requires : tie.Need-parent-of-requires
+parent-of-requires c κs = search needs
 
 enum-told : tie.Need-enum-told
 enum-told c = search needs
 
 returns : tie.Need-returns
-returns c =
-    let s = c .before .before .before .before in
-    let a = s .args in
-    known-found (a .head .now) (a .used) (s .pre) (a .frame) _
-    (subst (Finds (a .used) (a .head .now) (a .frame)) (c .enum-told .given .1) (c .before .before .find-row .ensures))
+returns c i p = known-by _ (c .before .before .before .before .args .frame) (c .enum-told .given .1) (c .before .before .parent-of .ensures) i p
 
 enum-told-2 : tie.Need-enum-told-2
 enum-told-2 c = search needs
@@ -27,13 +22,10 @@ is-parent-requires c κs = search needs
 
 returns-2 : tie.Need-returns-2
 returns-2 c i p =
-    let s = c .before .before .before .before .before in
-    let a = s .args in
-    c .is-parent .ensures i p
-    ∙ known-absent (a .head .now) (a .used) (s .pre) (a .frame) _
-    (subst (Finds (a .used) (a .head .now) (a .frame)) (c .before .enum-told2 .given .1) (c .before .before .before .find-row .ensures)) i p
+    let m = c .before in
+    c .is-parent .ensures i p ∙ known-by _ (m .before .before .before .before .args .frame) (m .enum-told2 .given .1) (m .before .before .parent-of .ensures) i p
 
 pub frame-exists-spec : {M : Type 1} → statement M
 frame-exists-spec =
     tie.close
-    (tie.spec find-row-requires enum-told returns enum-told-2 is-parent-requires returns-2)
+    (tie.spec parent-of-requires enum-told returns enum-told-2 is-parent-requires returns-2)

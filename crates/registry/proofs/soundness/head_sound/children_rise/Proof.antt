@@ -2,6 +2,7 @@
 use Prim.Native.Nat.{_-_, _≤_}
 use native.Mathlib.Omega.{arith}
 use borrow.Author.Count.{below-more}
+use Rattle.registry.proofs.layout.RowLaws.{used-header, used-row}
 use Rattle.registry.proofs.soundness.HeadTests.{Neighbours, rise-fails, rise-all}
 use Rattle.registry.proofs.soundness.head_sound.children_rise.Statement.{statement}
 use Rattle.registry.proofs.soundness.head_sound.children_rise.Tie as tie
@@ -12,6 +13,9 @@ Inv-loop head used r₀ r = (1 ≤ r) × Neighbours head r
 abbrev μ-loop : tie.MeasureT-loop
 μ-loop head used r₀ r = used - r
 
+used-requires : tie.Need-used-requires Inv-loop μ-loop
+used-requires c κs = let s = c .before in used-header (s .args .head .now) (s .pre)
+
 loop-holds : tie.Need-loop-holds Inv-loop μ-loop
 loop-holds c = (omega arith, λ k l z. absurd (omega arith))
 
@@ -19,16 +23,16 @@ sub-child-at : tie.Need-sub-child-at Inv-loop μ-loop
 sub-child-at c = omega arith
 
 child-at-requires : tie.Need-child-at-requires Inv-loop μ-loop
-child-at-requires c κs = omega arith
+child-at-requires c κs = let s = c .before .before .before .before in used-row (s .args .head .now) (c .before .loop .r - 1) (s .pre) (omega (arith, c .before .before .used .ensures))
 
 child-at-requires-2 : tie.Need-child-at-requires-2 Inv-loop μ-loop
-child-at-requires-2 c κs = omega arith
+child-at-requires-2 c κs = let s = c .before .before .before .before .before in used-row (s .args .head .now) (c .before .before .loop .r) (s .pre) (omega (arith, c .before .before .before .used .ensures))
 
 returns : tie.Need-returns Inv-loop μ-loop
 returns c =
     let l = c .before .before .before .before .loop in
-    let s = c .before .before .before .before .before .before in
-    rise-fails (s .args .head .now) (s .args .used) (s .pre) (l .r) (omega arith) (omega arith)
+    let u = c .before .before .before .before .before in
+    rise-fails (u .before .before .args .head .now) (l .r) (omega arith) (omega (arith, u .used .ensures))
     (omega (arith, c .if1 .taken, c .before .child-at2 .ensures, c .before .before .child-at .ensures))
 
 add-r : tie.Need-add-r Inv-loop μ-loop
@@ -44,8 +48,8 @@ loop-again c =
 
 returns-2 : tie.Need-returns-2 Inv-loop μ-loop
 returns-2 c =
-    let s = c .before .before .before in
-    rise-all (s .args .head .now) (s .args .used) (s .pre) (λ k l z. c .before .loop .inv .1 k (omega arith) z)
+    let u = c .before .before in
+    rise-all (u .before .before .args .head .now) (λ k l z. c .before .loop .inv .1 k (omega (arith, u .used .ensures)) z)
 
 pub children-rise-spec : {M : Type 1} → statement M
 children-rise-spec =
@@ -53,6 +57,7 @@ children-rise-spec =
     (tie.spec
     Inv-loop
     μ-loop
+    used-requires
     loop-holds
     sub-child-at
     child-at-requires

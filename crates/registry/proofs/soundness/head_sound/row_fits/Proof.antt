@@ -3,17 +3,17 @@ use Prim.Native.Nat.{ℕ}
 use native.Mathlib.Omega.{arith}
 use lib.Dec.{leb}
 use borrow.Author.Needs.{needs}
-use Rattle.registry.specs.Store.{rowWord}
+use Rattle.registry.specs.Store.{childIn, parentIn}
 use Rattle.registry.specs.layout.Rows.{headOf}
 use Rattle.registry.proofs.soundness.HeadTests.{child-wide, parent-wide, own-parent, kind-decides}
 use Rattle.registry.proofs.soundness.head_sound.row_fits.Statement.{statement}
 use Rattle.registry.proofs.soundness.head_sound.row_fits.Tie as tie
 
 -- the two frames, as the head has them
-child : (c : tie.After-parent-at) → c .before .child-at .result ≡ rowWord (headOf (c .before .before .before .args .head .now)) (c .before .before .before .args .r) 0
+child : (c : tie.After-parent-at) → c .before .child-at .result ≡ childIn (headOf (c .before .before .before .args .head .now)) (c .before .before .before .args .r)
 child c = c .before .child-at .ensures
 
-parent : (c : tie.After-parent-at) → c .parent-at .result ≡ rowWord (headOf (c .before .before .before .args .head .now)) (c .before .before .before .args .r) 1
+parent : (c : tie.After-parent-at) → c .parent-at .result ≡ parentIn (headOf (c .before .before .before .args .head .now)) (c .before .before .before .args .r)
 parent c = c .parent-at .ensures
 
 child-at-requires : tie.Need-child-at-requires

@@ -2,6 +2,7 @@
 use Prim.Native.Nat.{_-_, _≤_}
 use mathlib.Core.Path.{_∙_}
 use native.Mathlib.Omega.{arith}
+use lib.ListN.{length}
 use borrow.Author.Needs.{needs}
 use Rattle.registry.specs.soundness.Climbs.{Climbed}
 use Rattle.registry.proofs.soundness.Doubling.{climbed-twice, ended-is}
@@ -9,10 +10,10 @@ use Rattle.registry.proofs.soundness.no_circle.climbs_end.Statement.{st
 use Rattle.registry.proofs.soundness.no_circle.climbs_end.Tie as tie
 
 abbrev Inv-loop : tie.InvT-loop
-Inv-loop head used rows₀ steps₀ rows steps = (1 ≤ steps) × Climbed used head steps rows
+Inv-loop head rows₀ steps₀ rows steps = (1 ≤ steps) × Climbed head steps rows
 
 abbrev μ-loop : tie.MeasureT-loop
-μ-loop head used rows₀ steps₀ rows steps = used - steps
+μ-loop head rows₀ steps₀ rows steps = length rows₀ - steps
 
 parent-rows-requires : tie.Need-parent-rows-requires Inv-loop μ-loop
 parent-rows-requires c κs = c .before .before .before .pre
@@ -33,7 +34,7 @@ loop-again : tie.Need-loop-again Inv-loop μ-loop
 loop-again c =
     let l = c .before .before .before .before .before .loop in
     let a = c .before .before .before .before .before .before .before .before .before .before .before .before .args in
-    (omega arith, climbed-twice (a .used) (a .head .now) (l .steps) (l .rows) _ (c .before .before .double .ensures) (l .inv .1))
+    (omega arith, climbed-twice (a .head .now) (l .steps) (l .rows) _ (c .before .before .double .ensures) (l .inv .1))
 
 all-ended-requires : tie.Need-all-ended-requires Inv-loop μ-loop
 all-ended-requires c κs = search needs
@@ -46,7 +47,7 @@ returns c =
     let l = c .before .before .before .loop in
     let s = c .before .before .before .before .before .before .before .before .before .before in
     let a = s .args in
-    λ i p. c .all-ended .ensures ∙ ended-is (a .used) (a .head .now) (s .pre .0) (l .steps) (l .rows) (l .inv .1) (omega arith) i p
+    λ i p. c .all-ended .ensures ∙ ended-is (a .head .now) (s .pre .0) (l .steps) (l .rows) (l .inv .1) (omega arith) i p
 
 pub climbs-end-spec : {M : Type 1} → statement M
 climbs-end-spec =

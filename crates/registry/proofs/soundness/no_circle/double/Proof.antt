@@ -6,12 +6,12 @@ use native.Mathlib.Numerals.{add-one}
 use native.Mathlib.Omega.{arith}
 use lib.ListN.{length, set, length-set}
 use borrow.Author.Needs.{needs}
-use Rattle.registry.specs.soundness.Climbs.{onward, moveOn, movedOn}
+use Rattle.registry.specs.soundness.Climbs.{jumpAt, jumped}
 use Rattle.registry.proofs.soundness.no_circle.double.Statement.{statement}
 use Rattle.registry.proofs.soundness.no_circle.double.Tie as tie
 
 abbrev Inv-loop : tie.InvT-loop
-Inv-loop rows₀ r₀ rows r = (r ≤ length rows₀) × (length rows ≡ length rows₀) × (rows ≡ movedOn r rows₀)
+Inv-loop rows₀ r₀ rows r = (r ≤ length rows₀) × (length rows ≡ length rows₀) × (rows ≡ jumped r rows₀)
 
 abbrev μ-loop : tie.MeasureT-loop
 μ-loop rows₀ r₀ rows r = length rows₀ - r
@@ -19,14 +19,14 @@ abbrev μ-loop : tie.MeasureT-loop
 loop-holds : tie.Need-loop-holds Inv-loop μ-loop
 loop-holds c = (omega arith, refl, refl)
 
-mul-onward : tie.Need-mul-onward Inv-loop μ-loop
-mul-onward c = omega arith
+mul-jump : tie.Need-mul-jump Inv-loop μ-loop
+mul-jump c = omega arith
 
-slice-reshared-read-onward : tie.Need-slice-reshared-read-onward Inv-loop μ-loop
-slice-reshared-read-onward c = omega arith
+slice-reshared-read-jump : tie.Need-slice-reshared-read-jump Inv-loop μ-loop
+slice-reshared-read-jump c = omega arith
 
-onward-requires : tie.Need-onward-requires Inv-loop μ-loop
-onward-requires c κs = search needs
+jump-requires : tie.Need-jump-requires Inv-loop μ-loop
+jump-requires c κs = search needs
 
 mul-rows : tie.Need-mul-rows Inv-loop μ-loop
 mul-rows c = omega arith
@@ -46,7 +46,7 @@ loop-again c =
     let rows₀ = c .before .before .before .before .before .args .rows .now in (
       omega arith,
       simp length-set (l .inv .1),
-      ap (set (l .rows) (l .r)) (c .onward .ensures) ∙ ap (λ (m : List ℕ). moveOn m (l .r)) (l .inv .2) ∙ ap (λ (n : ℕ). movedOn n rows₀) (sym (add-one (l .r))),
+      ap (set (l .rows) (l .r)) (c .jump .ensures) ∙ ap (λ (m : List ℕ). jumpAt m (l .r)) (l .inv .2) ∙ ap (λ (n : ℕ). jumped n rows₀) (sym (add-one (l .r))),
     )
 
 same-length : tie.Need-same-length Inv-loop μ-loop
@@ -57,7 +57,7 @@ returns c =
     let l = c .before .loop in
     let rows₀ = c .before .before .before .args .rows .now in
     let e : l .r ≡ length rows₀ = omega arith in
-    l .inv .2 ∙ ap (λ (n : ℕ). movedOn n rows₀) e
+    l .inv .2 ∙ ap (λ (n : ℕ). jumped n rows₀) e
 
 pub double-spec : {M : Type 1} → statement M
 double-spec =
@@ -66,9 +66,9 @@ double-spec =
     Inv-loop
     μ-loop
     loop-holds
-    mul-onward
-    slice-reshared-read-onward
-    onward-requires
+    mul-jump
+    slice-reshared-read-jump
+    jump-requires
     mul-rows
     slice-write-rows
     add-r

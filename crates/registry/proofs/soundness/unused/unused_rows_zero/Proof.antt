@@ -1,84 +1,53 @@
 -- `registry::soundness::unused::unused_rows_zero` meets its contract: the first part that is not zero decides.
-use Prim.Native.Nat.{ℕ, _+_, _-_, _*_, _≤_}
-use mathlib.Core.Path.{_≡_, refl, sym, ap, _∙_}
-use mathlib.Core.Bool.{Bool}
-use mathlib.Core.List.{List}
-use native.Mathlib.Omega.{arith}
+use Prim.Native.Nat.{ℕ}
+use mathlib.Core.Path.{_≡_, sym, ap, _∙_}
 use lib.Dec.{eqb}
-use lib.ListN.{length, getD, take, drop}
+use lib.ListN.{drop}
 use borrow.Author.Needs.{needs}
 use borrow.Author.Tests.{not-true, not-false}
 use Rattle.buffer.specs.Map.{all}
 use Rattle.buffer.specs.Row.{isZero}
-use Rattle.buffer.proofs.Chunks.{take-rest}
+use Rattle.registry.specs.Store.{Store, headLength, instantsLength, posesLength, unusedHead, unusedInstants}
+use Rattle.registry.specs.Calls.{storeOf}
+use Rattle.registry.proofs.layout.RowLaws.{used-header}
 use Rattle.registry.proofs.soundness.unused.unused_rows_zero.Statement.{statement}
 use Rattle.registry.proofs.soundness.unused.unused_rows_zero.Tie as tie
 
--- the test of the part from i on is that of what follows the first j
-rest : {A : Type 0} (test : A → Bool) (i j w : ℕ) (l : List A) (b : Bool) → i ≡ j → length l - i ≤ w → b ≡ all test (take w (drop i l)) → all test (drop j l) ≡ b
-rest test i j w l b q h e = sym (e ∙ ap (all test) (take-rest i w l h) ∙ ap (λ (n : ℕ). all test (drop n l)) q)
+abbrev start : tie.After-capacity → tie.Start
+start c = c .before .before .before .before .before
 
-abbrev start : tie.After-zero-words → tie.Start
-start c = c .before .before .before .before .before .before .before .before
+abbrev store : tie.After-capacity → Store
+store c = let a = start c .args in storeOf (a .head .now) (a .instants .now) (a .poses .now)
 
-abbrev used : tie.Start → ℕ
-used s = getD (s .args .head .now) 2 0
+-- what each test finds
+head : (c : tie.After-zero-words) → all (eqb 0) (unusedHead (store (c .before .before))) ≡ c .zero-words .result
+head c =
+    let k = c .before .before in
+    sym (c .zero-words .ensures ∙ ap (all (eqb 0)) (c .before .head-after .ensures) ∙ ap (λ (n : ℕ). all (eqb 0) (drop (headLength n) (store k .head))) (k .before .used .ensures))
 
-abbrev places : tie.Start → ℕ
-places s = getD (s .args .head .now) 1 0
-
-rows : (c : tie.After-zero-words) → all (eqb 0) (drop (5 + 4 * used (start c)) (start c .args .head .now)) ≡ c .zero-words .result
-rows c =
-    let h = start c .args .head .now in
-    let row = c .before .before .word-place in
-    rest (eqb 0) (row .result) (5 + 4 * used (start c)) (length h - row .result) h _ (omega (arith, row .ensures)) (omega arith) (c .zero-words .ensures)
-
-instants : (c : tie.After-zero-words2) → (let s = start (c .before .before .before) in all (eqb 0) (drop (used s * places s) (s .args .instants .now)) ≡ c .zero-words2 .result)
+instants : (c : tie.After-zero-words2) → all (eqb 0) (unusedInstants (store (c .before .before .before .before .before))) ≡ c .zero-words2 .result
 instants c =
-    let s = start (c .before .before .before) in
-    rest (eqb 0) (used s * places s) _ (length (s .args .instants .now) - used s * places s) (s .args .instants .now) _ refl (omega arith) (c .zero-words2 .ensures)
+    let k = c .before .before .before .before .before in
+    sym (c .zero-words2 .ensures ∙ ap (all (eqb 0)) (c .before .instants-after .ensures)
+    ∙ λ i. all (eqb 0) (drop (instantsLength (k .before .used .ensures i) (k .capacity .ensures i)) (store k .instants)))
 
-shared-slice-read-used : tie.Need-shared-slice-read-used
-shared-slice-read-used c = search needs
+used-requires : tie.Need-used-requires
+used-requires c κs = let s = c .before .before .before in used-header (s .args .head .now) (s .pre .head)
 
-shared-slice-read-places : tie.Need-shared-slice-read-places
-shared-slice-read-places c = search needs
+capacity-requires : tie.Need-capacity-requires
+capacity-requires c κs = let s = c .before .before .before .before in used-header (s .args .head .now) (s .pre .head)
 
-word-place-requires : tie.Need-word-place-requires
-word-place-requires c κs = search needs
-
-mul-zero-words : tie.Need-mul-zero-words
-mul-zero-words c = search needs
-
-sub-zero-words : tie.Need-sub-zero-words
-sub-zero-words c = search needs
-
-part-zero-words-start : tie.Need-part-zero-words-start
-part-zero-words-start c = search needs
-
-part-zero-words-end : tie.Need-part-zero-words-end
-part-zero-words-end c = search needs
+head-after-requires : tie.Need-head-after-requires
+head-after-requires c κs = rw (c .before .used .ensures) (start c .pre .head)
 
 zero-words-requires : tie.Need-zero-words-requires
 zero-words-requires c κs = search needs
 
 returns : tie.Need-returns
-returns c = simp (rows (c .before) ∙ not-true _ (c .if1 .taken))
+returns c = simp (head (c .before) ∙ not-true _ (c .if1 .taken))
 
-mul-instant : tie.Need-mul-instant
-mul-instant c = search needs
-
-mul-zero-words-2 : tie.Need-mul-zero-words-2
-mul-zero-words-2 c = search needs
-
-sub-zero-words-2 : tie.Need-sub-zero-words-2
-sub-zero-words-2 c = search needs
-
-part-zero-words-start-2 : tie.Need-part-zero-words-start-2
-part-zero-words-start-2 c = search needs
-
-part-zero-words-end-2 : tie.Need-part-zero-words-end-2
-part-zero-words-end-2 c = search needs
+instants-after-requires : tie.Need-instants-after-requires
+instants-after-requires c κs = let k = c .before .before .before in rw (k .before .used .ensures, k .capacity .ensures) (start k .pre .instants)
 
 zero-words-requires-2 : tie.Need-zero-words-requires-2
 zero-words-requires-2 c κs = search needs
@@ -86,22 +55,12 @@ zero-words-requires-2 c κs = search needs
 returns-2 : tie.Need-returns-2
 returns-2 c =
     let b = c .before .before .before in
-    simp (rows (b .before) ∙ not-false _ (b .if1 .left), instants (c .before) ∙ not-true _ (c .if2 .taken))
+    simp (head (b .before) ∙ not-false _ (b .if1 .left), instants (c .before) ∙ not-true _ (c .if2 .taken))
 
-mul-float : tie.Need-mul-float
-mul-float c = search needs
-
-mul-zero-floats : tie.Need-mul-zero-floats
-mul-zero-floats c = search needs
-
-sub-zero-floats : tie.Need-sub-zero-floats
-sub-zero-floats c = search needs
-
-part-zero-floats-start : tie.Need-part-zero-floats-start
-part-zero-floats-start c = search needs
-
-part-zero-floats-end : tie.Need-part-zero-floats-end
-part-zero-floats-end c = search needs
+poses-after-requires : tie.Need-poses-after-requires
+poses-after-requires c κs =
+    let k = c .before .before .before .before .before .before in
+    rw (k .before .used .ensures, k .capacity .ensures) (start k .pre .poses)
 
 zero-floats-requires : tie.Need-zero-floats-requires
 zero-floats-requires c κs = search needs
@@ -110,34 +69,23 @@ returns-3 : tie.Need-returns-3
 returns-3 c =
     let d = c .before .before in
     let b = d .before .before .before in
-    let s = start (b .before) in
-    let floats = rest isZero (7 * (used s * places s)) _ (length (s .args .poses .now) - 7 * (used s * places s)) (s .args .poses .now) _ refl (omega arith) (c .zero-floats .ensures) in
-    rw (rows (b .before) ∙ not-false _ (b .if1 .left), instants (d .before) ∙ not-false _ (d .if2 .left)) (sym floats)
+    let k = b .before .before .before in
+    rw (head (b .before) ∙ not-false _ (b .if1 .left), instants (d .before) ∙ not-false _ (d .if2 .left))
+    (c .zero-floats .ensures ∙ ap (all isZero) (c .before .poses-after .ensures)
+    ∙ λ i. all isZero (drop (posesLength (k .before .used .ensures i) (k .capacity .ensures i)) (store k .poses)))
 
 pub unused-rows-zero-spec : {M : Type 1} → statement M
 unused-rows-zero-spec =
     tie.close
     (tie.spec
-    shared-slice-read-used
-    shared-slice-read-places
-    word-place-requires
-    mul-zero-words
-    sub-zero-words
-    part-zero-words-start
-    part-zero-words-end
+    used-requires
+    capacity-requires
+    head-after-requires
     zero-words-requires
     returns
-    mul-instant
-    mul-zero-words-2
-    sub-zero-words-2
-    part-zero-words-start-2
-    part-zero-words-end-2
+    instants-after-requires
     zero-words-requires-2
     returns-2
-    mul-float
-    mul-zero-floats
-    sub-zero-floats
-    part-zero-floats-start
-    part-zero-floats-end
+    poses-after-requires
     zero-floats-requires
     returns-3)
