@@ -1,9 +1,6 @@
 -- What the tests of 1 and 2 find, and what they make of a call on a store that is lent.
 use mathlib.Core.Path.{_≡_, refl, sym, ap, _∙_}
 use mathlib.Core.Bool.{Bool, true, false, not, _&&_}
-use mathlib.Core.List.{[], _∷_}
-use types.Run.{OneOf, miss}
-use denote.Enum.Declared.{tagOf}
 use Rattle.time.specs.Reply.{Reply, answer, refusal, nothing, refuse, _then_}
 use Rattle.buffer.proofs.Cases.{and-left, and-right}
 use Rattle.registry.specs.Tree.{Tree, Limits}
@@ -12,7 +9,6 @@ use Rattle.registry.specs.Sound.{sound, SoundStore}
 use Rattle.registry.specs.Calls.{written, onTree, checkedReply}
 use Rattle.registry.specs.declared.check.Checked.{Checked}
 use Rattle.registry.specs.declared.check.Checked.the-variants.{Sizes, UnsoundStore, Sound}
-use Rattle.registry.proofs.check.Checked.{the-type}
 
 -- the tests of the store find k
 abbrev pub TestsFind : Store → Checked → Type 0
@@ -75,9 +71,3 @@ pub found-sound : (s : Store) → TestsFind s Sound → SoundStore s
 found-sound s h =
     let passed : (sized s && sound s) ≡ true = sym (ap answered h ∙ answered-is s) in
     record { sizes = and-left (sized s) (sound s) passed; rules = and-right (sized s) (sound s) passed }
-
--- what is neither refused as 1 nor as 2
-pub checked-sound : (s : Store) (r : Checked) → OneOf (1 ∷ 2 ∷ []) (tagOf the-type r) → OneOf (0 ∷ 2 ∷ []) (tagOf the-type r) → TestsFind s r → SoundStore s
-checked-sound s Sizes h k c = absurd (miss (1 ∷ 2 ∷ []) 0 tt h)
-checked-sound s UnsoundStore h k c = absurd (miss (0 ∷ 2 ∷ []) 1 tt k)
-checked-sound s Sound h k c = found-sound s c
