@@ -1,5 +1,6 @@
 pub mod AsMap
 pub mod Fits
+pub mod Held
 pub mod Readings
 pub mod Replies
 pub mod ReplyInjective

@@ -49,10 +49,12 @@ replyOf enum.NonFinite = refusal 13 nothing
 replyOf enum.ZeroLengthNormalization = refusal 14 nothing
 replyOf enum.TreeFull = refusal 16 nothing
 replyOf enum.RowFull = refusal 17 nothing
+replyOf enum.MapForm = refusal 18 nothing
+replyOf enum.StoreInUse = refusal 19 nothing
 
 -- "A refusal carries the listed data": these numbers nothing, 4 the norm, 6 that parent and 9 the frame, 11 and 12 a hop's child and its range, if any
 abbrev pub withNothing : List ℕ
-withNothing = 1 ∷ 2 ∷ 3 ∷ 5 ∷ 7 ∷ 8 ∷ 10 ∷ 13 ∷ 14 ∷ 15 ∷ 16 ∷ 17 ∷ []
+withNothing = 1 ∷ 2 ∷ 3 ∷ 5 ∷ 7 ∷ 8 ∷ 10 ∷ 13 ∷ 14 ∷ 15 ∷ 16 ∷ 17 ∷ 18 ∷ 19 ∷ []
 
 abbrev pub withNorm : List ℕ
 withNorm = 4 ∷ []

@@ -49,6 +49,10 @@ abbrev pub instantOf : Stamp → ℕ
 instantOf stamp.Static = 0
 instantOf (stamp.At i) = i
 
+-- the tree has no child, and so no parent either
+abbrev pub holdsNoFrame : Tree → Bool
+holdsNoFrame t = eqb (length t) 0
+
 -- ---- climbing
 
 abbrev pub isAbsent : Option Edge → Bool

@@ -35,6 +35,8 @@ pub enum Answer {
     ZeroLengthNormalization,
     TreeFull,
     RowFull,
+    MapForm,
+    StoreInUse,
 }
 
 // The data that a refusal carries.
@@ -89,6 +91,8 @@ impl Reply {
             Answer::ZeroLengthNormalization => return Reply::Refusal(ZERO_LENGTH, Carried::Nothing),
             Answer::TreeFull => return Reply::Refusal(16, Carried::Nothing),
             Answer::RowFull => return Reply::Refusal(17, Carried::Nothing),
+            Answer::MapForm => return Reply::Refusal(18, Carried::Nothing),
+            Answer::StoreInUse => return Reply::Refusal(19, Carried::Nothing),
         }
     }
 

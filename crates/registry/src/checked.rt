@@ -18,8 +18,8 @@ ghost use mathlib.Core.Bool.{true};
 ghost use mathlib.Core.List.{[]};
 ghost use Rattle.time.specs.Reply.{answer};
 ghost use Rattle.buffer.specs.Answers.{ageOf};
-ghost use Rattle.registry.specs.Tree.{addition, add, wipe};
-ghost use Rattle.registry.specs.Store.{sizesFit, limitsOf, treeOf};
+ghost use Rattle.registry.specs.Tree.{addition, holdsNoFrame, add, wipe};
+ghost use Rattle.registry.specs.Store.{sizesFit, limitsOf, treeOf, stored};
 ghost use Rattle.registry.specs.Sound.{SoundStore};
 ghost use Rattle.registry.specs.Answers.{replyOf};
 ghost use Rattle.registry.specs.Calls.{outcome, storeOf, written};
@@ -42,6 +42,25 @@ pub fn open(
     words::clear_words(instants);
     words::clear_floats(poses);
     Answer::Done
+}
+
+// Whether the store holds no frame.
+pub fn is_empty(head: &[u64], instants: &[u64], poses: &[f64]) -> bool
+    requires { ⌜ SoundStore (storeOf (now head) (now instants) (now poses)) ⌝ }
+    ensures { λ r. ⌜ r ≡ holdsNoFrame (treeOf (storeOf (now (head .entry)) (now (instants .entry)) (now (poses .entry)))) ⌝ }
+{
+    layout::used(head) == 0
+}
+
+// Leaves a store of the same sizes and age with no row used.
+pub fn clear(head: &mut [u64], instants: &mut [u64], poses: &mut [f64])
+    requires { ⌜ SoundStore (storeOf (now head) (now instants) (now poses)) ⌝ }
+    ensures { λ _. ⌜ storeOf (now (head .exit)) (now (instants .exit)) (now (poses .exit)) ≡ stored (limitsOf (storeOf (now (head .entry)) (now (instants .entry)) (now (poses .entry)))) [] ⌝ }
+{
+    let rows = layout::rows(head);
+    let samples = layout::capacity(head);
+    let max_age = layout::max_age(head);
+    open(head, instants, poses, rows, samples, max_age);
 }
 
 // Puts a pose into the tree, or says why not and leaves every word.

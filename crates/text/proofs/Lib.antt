@@ -1,3 +1,4 @@
+pub mod Bytes
 pub mod DigitCharacters
 pub mod Words
 pub mod Forms

@@ -16,7 +16,7 @@ use lib.Ieee.Bits.{ofBits-toBits, toBits-lt}
 use Rattle.text.specs.Digits.{digitCharacter, digit, digits, numberFrom, below, digitCount}
 use Rattle.text.specs.Reading.{upToSpace, goingOn, notEmpty, readAt, number, frame, float}
 use Rattle.text.specs.Writing.{numberText, written}
-use Rattle.text.specs.Laws.{ReadBack, NumberBack, FrameBack, FloatBack, NanNotRead, WrittenBack, NoZeroInFront}
+use Rattle.text.specs.Laws.{ReadBack, NumberBack, FrameBack, FloatBack, ByteBack, NanNotRead, WrittenBack, NoZeroInFront}
 use Rattle.text.proofs.DigitCharacters.{digit-digitCharacter, digitCharacter-no-space}
 use Rattle.text.proofs.DigitCounts.{digitCount-some, digitCount-hold, first-digit}
 use Rattle.text.proofs.Stores.{length-digits}
@@ -74,6 +74,9 @@ digits-read form a base k n p e = read-back form a (digits base k n) e (omega (a
 
 number-text : (n : ℕ) → n < 2 ^ 64 → number (numberText n) ≡ some n
 number-text n h = ap (below (2 ^ 64)) (number-digits 10 (omega arith) (omega arith) (digitCount 19 n) n (digitCount-hold 19 n (omega arith))) ∙ simp (lt-ltb n (2 ^ 64) h)
+
+pub byteBack : ByteBack
+byteBack b h = simp (length-digits 16 2 b, number-digits 16 (omega arith) (omega arith) 2 b h, lt-ltb b (2 ^ 64) (omega arith))
 
 pub numberBack : NumberBack
 numberBack n h = digits-read number n 10 (digitCount 19 n) n (digitCount-some 19 n) (number-text n h)

@@ -12,6 +12,8 @@ use Rattle.text.specs.declared.read.Frame.{Frame}
 use Rattle.text.specs.declared.read.Frame.the-variants as frame
 use Rattle.text.specs.declared.read.Float.{Float as FloatWord}
 use Rattle.text.specs.declared.read.Float.the-variants as float
+use Rattle.text.specs.declared.read.Byte.{Byte}
+use Rattle.text.specs.declared.read.Byte.the-variants as byte
 use Rattle.text.specs.declared.read.Keyword.{Keyword}
 use Rattle.text.specs.declared.read.Keyword.the-variants as keyword
 
@@ -37,3 +39,8 @@ floatRead float.Malformed = none
 abbrev pub keywordRead : Keyword → Option (Unit {0} × ℕ)
 keywordRead (keyword.Next next) = some (tt, next)
 keywordRead keyword.Other = none
+
+-- a byte
+abbrev pub byteRead : Byte → Option ℕ
+byteRead (byte.Value b) = some b
+byteRead byte.Malformed = none

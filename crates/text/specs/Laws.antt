@@ -7,8 +7,8 @@ use mathlib.Core.List.{List, [], _++_}
 use lib.Dec.{T}
 use lib.ListN.{length, take, getD}
 use lib.Ieee.{Float, nan, binary64, fits, isNan}
-use Rattle.text.specs.Reading.{upToSpace, readAt, number, frame, float}
-use Rattle.text.specs.Writing.{numberText, floatText, written}
+use Rattle.text.specs.Reading.{upToSpace, readAt, number, frame, float, byte}
+use Rattle.text.specs.Writing.{numberText, floatText, byteText, written}
 
 -- wherever the text stands in a line, with the line's end or a space behind it, the value is read and the text goes on behind that
 abbrev pub ReadBack : {A : Type 0} → (List ℕ → Option A) → A → List ℕ → Type 0
@@ -26,6 +26,10 @@ FrameBack = (n : ℕ) → n < 2 ^ 32 → ReadBack frame n (numberText n)
 -- reading what writing a float wrote gives the float back, signs of zeros included, when it is no NaN
 abbrev pub FloatBack : Type 0
 FloatBack = (x : Float) → T (fits binary64 x) → isNan x ≡ false → ReadBack float x (floatText x)
+
+-- the digits of a byte are read as that byte
+abbrev pub ByteBack : Type 0
+ByteBack = (b : ℕ) → b < 256 → byte (byteText b) ≡ some b
 
 -- `nan` is not read
 abbrev pub NanNotRead : Type 0

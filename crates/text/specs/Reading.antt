@@ -4,7 +4,7 @@ use mathlib.Core.Bool.{Bool, true, false, cond, _&&_}
 use mathlib.Core.Option.{Option, none, some, Option·map}
 use mathlib.Core.List.{List, [], _∷_}
 use lib.Dec.{eqb}
-use lib.ListN.{length, drop}
+use lib.ListN.{length, take, drop}
 use lib.Ieee.{Float, binary64, ofBits}
 use Rattle.text.specs.Digits.{below, numberIn}
 
@@ -42,6 +42,14 @@ frame word = below (2 ^ 32) (number word)
 -- a float: exactly the 16 hexadecimal digits of its bits, lower case; a NaN for any NaN's bits. The word `nan` is written and not read.
 abbrev pub float : List ℕ → Option Float
 float word = cond (eqb (length word) 16) (Option·map (ofBits binary64) (numberIn 16 word)) none
+
+-- a byte: exactly its two hexadecimal digits, lower case
+abbrev pub byte : List ℕ → Option ℕ
+byte digits = cond (eqb (length digits) 2) (numberIn 16 digits) none
+
+-- the byte whose digits stand at a place
+unfoldable pub byteAt : List ℕ → ℕ → Option ℕ
+byteAt line at = byte (take 2 (drop at line))
 
 -- whether two words are the same bytes
 abbrev pub same : List ℕ → List ℕ → Bool

@@ -15,6 +15,10 @@ numberText n = digits 10 (digitCount 19 n) n
 abbrev pub floatText : Float → List ℕ
 floatText x = cond (isNan x) (110 ∷ 97 ∷ 110 ∷ []) (digits 16 16 (toBits binary64 x))
 
+-- the two hexadecimal digits of a byte
+abbrev pub byteText : ℕ → List ℕ
+byteText b = digits 16 2 b
+
 -- The next place, and the buffer with the text at the place. Without room for the whole text nothing is written, and the place stays.
 unfoldable pub written : List ℕ → ℕ → List ℕ → ℕ × List ℕ
 written out at text =

@@ -7,9 +7,9 @@ ghost use lib.Dec.{ltb};
 ghost use lib.ListN.{length};
 ghost use Rattle.text.specs.Digits.{numberIn};
 ghost use Rattle.text.specs.Digits.{digit as Digits·digit};
-ghost use Rattle.text.specs.Reading.{wordAt, readAt, goingOn, anyWord, number, frame, float, keyword};
+ghost use Rattle.text.specs.Reading.{wordAt, readAt, goingOn, anyWord, number, frame, float, keyword, byteAt};
 ghost use Rattle.text.specs.Reading.{same as Reading·same};
-ghost use Rattle.text.specs.Answers.{wordRead, numberRead, frameRead, floatRead, keywordRead};
+ghost use Rattle.text.specs.Answers.{wordRead, numberRead, frameRead, floatRead, keywordRead, byteRead};
 
 // The place at which a word ends; the text goes on at the place behind that.
 pub enum Word {
@@ -32,6 +32,12 @@ pub enum Frame {
 // A float, and where the text goes on.
 pub enum Float {
     Value(f64, usize),
+    Malformed,
+}
+
+// A byte by its two digits.
+pub enum Byte {
+    Value(u8),
     Malformed,
 }
 
@@ -86,7 +92,7 @@ fn digits(word: &[u8], base: u64, next: usize) -> Number
 }
 
 // Whether two words are the same bytes.
-fn same(a: &[u8], b: &[u8]) -> bool
+pub fn same(a: &[u8], b: &[u8]) -> bool
     ensures { λ r. ⌜ r ≡ Reading·same (now (a .entry)) (now (b .entry)) ⌝ }
 {
     if a.len() != b.len() {
@@ -193,4 +199,25 @@ pub fn read_keyword(line: &[u8], at: usize, expected: &[u8]) -> Keyword
         return Keyword::Next(end + 1);
     }
     Keyword::Other
+}
+
+// The byte whose two hexadecimal digits, lower case, stand at the place.
+pub fn read_byte(line: &[u8], at: usize) -> Byte
+    ensures { λ r. ⌜ byteRead r ≡ byteAt (now (line .entry)) at ⌝ }
+{
+    if line.len() <= at {
+        return Byte::Malformed;
+    }
+    if line.len() - at < 2 {
+        return Byte::Malformed;
+    }
+    let high = digit(line[at]);
+    let low = digit(line[at + 1]);
+    if 16 <= high {
+        return Byte::Malformed;
+    }
+    if 16 <= low {
+        return Byte::Malformed;
+    }
+    Byte::Value((16 * high + low) as u8)
 }

@@ -4,7 +4,7 @@ ghost use mathlib.Core.Path.{_≡_};
 ghost use Prim.Native.Nat.{_+_, _≤_, _<_};
 ghost use lib.Dec.{leb};
 ghost use Rattle.text.specs.Digits.{digitCharacter, digits, digitCount};
-ghost use Rattle.text.specs.Writing.{written, numberText, floatText};
+ghost use Rattle.text.specs.Writing.{written, numberText, floatText, byteText};
 
 // Whether count bytes from `at` on lie within len.
 fn room(len: usize, at: usize, count: usize) -> bool
@@ -87,4 +87,11 @@ pub fn write_float(out: &mut [u8], at: usize, x: f64) -> usize
         return write_bytes(out, at, b"nan");
     }
     write_digits(out, at, libm::float::to_bits(x), 16, 16)
+}
+
+// The two hexadecimal digits of a byte.
+pub fn write_byte(out: &mut [u8], at: usize, b: u8) -> usize
+    ensures { λ r. ⌜ (r, now (out .exit)) ≡ written (now (out .entry)) at (byteText b) ⌝ }
+{
+    write_digits(out, at, b as u64, 16, 2)
 }

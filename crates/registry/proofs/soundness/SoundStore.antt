@@ -2,6 +2,7 @@
 use Prim.Native.Nat.{ℕ, _^_, _<_}
 use mathlib.Core.Path.{_≡_, sym, ap, _∙_}
 use mathlib.Core.Bool.{Bool, true, _&&_}
+use native.Mathlib.Omega.{arith}
 use lib.Dec.{ltb}
 use borrow.Author.Tests.{ltb-true}
 use Rattle.buffer.specs.Row.{Row}
@@ -9,13 +10,13 @@ use Rattle.buffer.proofs.Cases.{and-right}
 use Rattle.buffer.proofs.Alls.{all-at}
 use Rattle.buffer.proofs.SoundRows.{sound-row}
 use Rattle.registry.specs.Tree.{Edge}
-use Rattle.registry.specs.Store.{Store, rowsIn, capacityIn, usedIn, ageIn, limitsOf, childIn, parentIn, countIn, rowInstants, rowPoses, edgeAt, rowAt, treeOf}
-use Rattle.registry.specs.layout.Rows.{RowPart, RisingRows}
+use Rattle.registry.specs.Store.{Store, rowsIn, capacityIn, usedIn, ageIn, limitsOf, childIn, parentIn, countIn, rowInstants, rowPoses, edgeAt, rowAt, treeOf, sizesFit}
+use Rattle.registry.specs.layout.Rows.{HasHeader, RowPart, RisingRows}
 use Rattle.registry.specs.Sound.{SoundStore}
-use Rattle.registry.proofs.layout.SizeLaws.{Sizes, sized-is}
+use Rattle.registry.proofs.layout.SizeLaws.{Sizes, sizes-fit-is, sized-is}
 use Rattle.registry.proofs.soundness.Rules.{Rules, sound-is}
 use Rattle.registry.proofs.layout.StoreBack.{Fits, blank}
-use Rattle.registry.proofs.layout.RowLaws.{seven-floats}
+use Rattle.registry.proofs.layout.RowLaws.{head-rises, seven-floats}
 use Rattle.registry.proofs.layout.SizeTests.{used-part}
 use Rattle.registry.proofs.layout.StoreRows.{row-sound}
 use Rattle.registry.proofs.layout.SoundIsStored.{sound-tree}
@@ -32,6 +33,12 @@ module _ (s : Store) (ok : SoundStore s) where
 
   abbrev rules : Rules s
   rules = sound-is s .0 (ok .rules)
+
+  pub sound-header : HasHeader (s .head)
+  sound-header = omega (arith, sizes .head, head-rises 0 (rowsIn s) (omega arith))
+
+  pub sound-sizes : sizesFit (rowsIn s) (capacityIn s) s ≡ true
+  sound-sizes = sizes-fit-is (rowsIn s) (capacityIn s) s .1 sizes
 
   pub sound-rows : RisingRows (s .head)
   sound-rows = rising-rows (s .head) (sound-parts s ok .head) (s .instants) (s .poses) (rules .rises)

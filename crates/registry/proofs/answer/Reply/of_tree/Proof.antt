@@ -130,6 +130,18 @@ enum-told-13 c = search needs
 returns-20 : tie.Need-returns-20
 returns-20 c = sym (ap said (c .enum-told13 .given .1))
 
+enum-told-14 : tie.Need-enum-told-14
+enum-told-14 c = search needs
+
+returns-21 : tie.Need-returns-21
+returns-21 c = sym (ap said (c .enum-told14 .given .1))
+
+enum-told-15 : tie.Need-enum-told-15
+enum-told-15 c = search needs
+
+returns-22 : tie.Need-returns-22
+returns-22 c = sym (ap said (c .enum-told15 .given .1))
+
 pub of-tree-spec : {M : Type 1} → statement M
 of-tree-spec =
     tie.close
@@ -173,4 +185,8 @@ of-tree-spec =
     enum-told-12
     returns-19
     enum-told-13
-    returns-20)
+    returns-20
+    enum-told-14
+    returns-21
+    enum-told-15
+    returns-22)

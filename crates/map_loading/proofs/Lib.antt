@@ -1,0 +1,15 @@
+pub mod AddAll
+pub mod Adding
+pub mod DoneIsAdditions
+pub mod LoadCases
+pub mod LoadFirstDue
+pub mod LoadRepliesFit
+pub mod LoadTests
+pub mod LoadedTree
+pub mod MapAdditions
+pub mod NamesBound
+pub mod RecordHere
+pub mod RecordRefusals
+pub mod RecordRefused
+pub mod RefusedAsFound
+pub mod Table
