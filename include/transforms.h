@@ -23,6 +23,20 @@
  * The words may be copied, saved and restored as bytes; they hold no pointer. Do not write into them:
  * a store that breaks a rule of its layout is refused with 2 and never read beyond its ends.
  *
+ * A map file lists frames, their parents and their mountings. All numbers are little-endian.
+ *   bytes                    what
+ *   0 to 2                   70, 82, 77 ("FRM")
+ *   3, 4                     the version, 1
+ *   5, 6                     the count of records, 0 to 65,535
+ *   then, for each record:
+ *   1                        the length of the child's name, 1 to 32
+ *   as many                  the child's name, bytes of any value
+ *   1                        the length of the parent's name, 1 to 32
+ *   as many                  the parent's name
+ *   7 * 8                    seven doubles: translation x, y, z, rotation w, x, y, z
+ * and nothing behind the last record. The names get the numbers of frames: from 0 by first appearance in the
+ * file, a record's child before its parent. A file is only read.
+ *
  * What the caller must not do
  *   - lend slices that overlap each other, in one call
  *   - pass a null pointer with a length above 0, or a length beyond the memory that is there
@@ -72,7 +86,9 @@ enum {
     TRANSFORMS_ZERO_LENGTH_NORMALIZATION = 14,  /* inverse, norm below 2^-52 */
     TRANSFORMS_DURATION_UNDERFLOW = 15,         /* interpolation: end, else query, before start */
     TRANSFORMS_TREE_FULL = 16,                  /* a new child, and all E rows are used */
-    TRANSFORMS_ROW_FULL = 17                    /* more than S samples would remain after expiry */
+    TRANSFORMS_ROW_FULL = 17,                   /* more than S samples would remain after expiry */
+    TRANSFORMS_MAP_FORM = 18,                   /* a map's mark, version or length byte, a short file, bytes left over */
+    TRANSFORMS_STORE_IN_USE = 19                /* a map is loaded into a store that holds a frame */
 };
 
 /* An answer, by value. A field that the call's answer or refusal does not carry is 0. */
@@ -81,12 +97,29 @@ typedef struct {
     uint32_t frame;           /* with 6, 9, 11 and 12 */
     uint32_t has_range;       /* with 11 and 12: 1 if the frame named holds a sample */
     uint32_t is_static;       /* latest_common_time: 1 if every hop is static, so any instant will do */
+    uint32_t is_record;       /* load_map: 1 if a record is refused, and `number` is why */
     uint64_t start;           /* with has_range: its first instant */
     uint64_t end;             /* with has_range: its last instant */
     double norm;              /* with 4 */
     uint64_t instant;         /* latest_common_time: the instant, unless is_static */
+    uint64_t index;           /* with is_record: the record's number, counted from 0 */
     transforms_isometry pose; /* get_transform, inverse, interpolate, validate */
 } transforms_answer;
+
+/* What the book of a map's names answers for a name. */
+typedef struct {
+    uint32_t number;          /* 0, or 18 */
+    uint32_t is_known;        /* 1 if the file gives the name */
+    uint32_t frame;           /* with is_known: the name's number */
+} transforms_frame_answer;
+
+/* What it answers for a number. */
+typedef struct {
+    uint32_t number;          /* 0, or 18 */
+    uint32_t is_known;        /* 1 if the file gives the number */
+    size_t start;             /* with is_known: where in the file the name's first byte is */
+    size_t count;             /* with is_known: how many bytes it has */
+} transforms_name_answer;
 
 /* The three lengths for E rows of S samples; 0 where E or S is out of bounds. */
 size_t transforms_head_len(uint64_t rows);
@@ -121,6 +154,22 @@ transforms_answer transforms_latest_common_time(
 transforms_answer transforms_remove_before(
     uint64_t *head, size_t head_len, uint64_t *instants, size_t instants_len, double *poses, size_t poses_len,
     uint32_t child, uint64_t instant);
+
+/* Adds each record of the map as a static frame to a store that holds none; S may be 1. Refuses: 1, 2, 19, 18, then
+ * the first record whose addition is refused, with 7, 3, 4, 5, 6 or 16: is_record is 1, `index` is the record, and
+ * the other fields are as from add_transform. A refused load leaves the store as it was. */
+transforms_answer transforms_load_map(
+    uint64_t *head, size_t head_len, uint64_t *instants, size_t instants_len, double *poses, size_t poses_len,
+    const uint8_t *map, size_t map_len);
+
+/* The number of a name, read from the file itself. A name that the file does not give is no refusal: number is 0
+ * and is_known 0. Refuses: 18. Nothing is kept between calls, so each time the file is read through, and each name up
+ * to the one asked for is held against those before it. Measured, in docs/PERFORMANCE.md: 0.4 ms for the last of 512
+ * names, which is as many as a store can have frames; 22 s for the last of the 131,070 names of the largest file. */
+transforms_frame_answer transforms_map_frame(const uint8_t *map, size_t map_len, const uint8_t *name, size_t name_len);
+
+/* The name of a number, as the place of its bytes in the file. Refuses: 18. It costs as much as map_frame. */
+transforms_name_answer transforms_map_name(const uint8_t *map, size_t map_len, uint32_t frame);
 
 /* The product: b, given in a's frame, seen from a's parent. Never refuses. */
 transforms_isometry transforms_mul(transforms_isometry a, transforms_isometry b);

@@ -6,6 +6,7 @@ from functools import partial
 
 import rules
 from lines import wrong_lines
+from map_scenes import longest_file, most_names, tight_map
 from model import Model
 from scenes import Tree, inv, leaf
 from values import LAST, Values, line
@@ -23,6 +24,10 @@ class Script:
         text = line(*parts)
         self.lines.append(text)
         return self.model.answer(text.encode("latin-1"))
+
+    def say_all(self, lines):
+        for text in lines:
+            self.say(text)
 
     def note(self, text):
         self.lines.append("# " + text)
@@ -44,7 +49,7 @@ class Script:
     def calls(self, tree, most):
         """Calls of each kind; the answers."""
         kinds = [lambda: tree.sample(self.rng.choice(list(tree.above))), tree.wipe, tree.question, tree.question]
-        kinds.append(lambda: line("lookup", 7, 7, 7))
+        kinds += [lambda: line("lookup", 7, 7, 7), lambda: "load"]
         return [self.say(kind()) for kind in self.rng.sample(kinds, self.rng.randint(2, most))]
 
 
@@ -217,6 +222,7 @@ def malformed(script, most=30):
     tree = five_rows(script)
     good = [tree.any() for _ in range(4)] + [leaf(script.values), inv(script.values), "words", "lend 25 15 105"]
     good += ["set head 4 0", "set poses 3 3ff0000000000000", "open 2 2 none", "open 2 2 5"]
+    good += ["map none", "map 46524d", "load", "frame 61ff", "name 1"]
     for text in wrong_lines(rng, good)[:most]:
         script.say(text)
         if rng.random() < 0.2:
@@ -226,10 +232,11 @@ def malformed(script, most=30):
 
 
 def unlent(script):
-    """Before the first opening nothing is lent."""
+    """Before the first opening nothing is lent, and an empty file."""
     tree = Tree(script.values, 3)
     script.say("words")
-    script.calls(tree, 5)
+    script.say_all(["load", "frame", "frame 61", "name 0"])
+    script.calls(tree, 6)
     for text in ("set head 0 1", "set instants 0 0", "set poses 0 0000000000000000", "open 0 1 none", "words"):
         script.say(text)
     script.say("lend", 5, 0, 0)
@@ -238,7 +245,8 @@ def unlent(script):
     script.say("lend", 13, 4, 28)
     script.calls(tree, 5)
     script.set([("head", 0, 2), ("head", 1, 2)])
-    script.calls(tree, 5)
+    script.say_all(["load", "map 46524d01000000", "load", "frame", "frame 61", "name 0"])
+    script.calls(tree, 6)
     script.say("words")
 
 
@@ -252,9 +260,12 @@ def scenes(rng):
         partial(malformed, most=1000),
         openings,
         fitting,
+        most_names,
+        longest_file,
+        *10 * [tight_map],
     ]
-    kinds = [tight, some_rules, any_words, lengths, by_hand, malformed, openings, fitting, every_rule]
-    weights = [30, 8, 4, 4, 3, 2, 0.4, 0.2, 0.3]
+    kinds = [tight, some_rules, any_words, lengths, by_hand, malformed, openings, fitting, every_rule, tight_map]
+    weights = [30, 8, 4, 4, 3, 2, 0.4, 0.2, 0.3, 9]
     while True:
         kind = first.pop(0) if first else rng.choices(kinds, weights)[0]
         kind(script)

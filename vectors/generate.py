@@ -2,7 +2,7 @@
 """generate.py SEED COUNT [bound]: a script of COUNT operations in the text protocol.
 
 The first mode never meets the sizes E and S, so that the Rust can answer it. The second, `bound`,
-meets them, writes words from outside, lends wrong lengths and has lines of wrong form.
+meets them, writes words from outside, lends wrong lengths and has lines of wrong form. Both have maps.
 """
 import random
 import sys

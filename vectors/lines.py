@@ -27,10 +27,17 @@ def wrong_lines(rng, good):
         "set head 1029 0", "set instants 65536 0", "set poses 458752 " + f, "set poses 0 1", "set instants 0 -1",
         "set poses 0 nan", "lend", "lend 1 1", "lend 1 1 1 1", "lend 1030 0 0", "lend 0 65537 0", "lend 0 0 458753",
         f"lend {LAST} 0 0", f"lend 0 0 {2**64}", "lend a 0 0", "lend -1 0 0",
+        "map", "map ", "map none ", "map none 00", "map 00 none", "map 0", "map 000", "map 0g", "map FF", "map fF",
+        "map 0x00", "map  00", "map 00 00", "map None", "Map none", "map " + 241 * "00", "map " + 254 * "00", "map -1",
+        "load ", "load 1", " load", "Load", "load none", "frame ", "frame 0", "frame 616", "frame 6G", "frame 6A",
+        "frame 61 62", "frame none", "frame " + 241 * "61", "frame " + 240 * "61", "frame  61", "name", "name ",
+        "name -1", "name +1", "name a", "name 0x1", "name 1 2", "name none", f"name {2**32}", f"name {2**64}",
+        f"name {2**32 - 1}", "name 1.0", "name  1", "names 1",
         "#", "# " + "n" * 510, "", "x" * 512, "x" * 513, "x" * 1024, "x" * 5000, "x" * 512 + "sqrt " + f,
     ]  # fmt: skip
     for size in (511, 512, 513, 514):  # leading zeros make a line of any length
         fixed += ["common " + "1 2".rjust(size - 7, "0"), "lookup " + "7 7 0".rjust(size - 7, "0")]
+        fixed.append("name " + "1".rjust(size - 5, "0"))
     fixed += ["sqrt " + f + " " * (size - 21) for size in (512, 513)]
     for _ in range(40):
         text = rng.choice(good)

@@ -1,5 +1,5 @@
 #!/usr/bin/env python3
-"""Answers the text protocol on standard input as document 01 says, without the Rust and the product.
+"""Answers the text protocol on standard input as documents 01 and 02 say, without the Rust and the product.
 
 `model.py --strict` writes the words and reads them again, with both tests, in every call.
 """
@@ -7,6 +7,7 @@ import re
 import struct
 import sys
 
+import maps
 import poses
 from poses import Refusal
 from store import HEAD, INSTANTS, POSES, Store
@@ -14,12 +15,16 @@ from store import HEAD, INSTANTS, POSES, Store
 LONGEST = 512
 NUMBER = re.compile(r"[0-9]+")
 FLOAT = re.compile(r"[0-9a-f]{16}")
+BYTES = re.compile(r"([0-9a-f]{2}){1,240}")
+MAP = 65_536
 LENT = {"head": HEAD, "instants": INSTANTS, "poses": POSES}
-# What each operation takes: f a frame, n a number, k a kind, d a float, a an age, s a slice's name.
+# What each operation takes: f a frame, n a number, k a kind, d a float, a an age, s a slice's name, w a word
+# of that slice, b bytes, m bytes of a map or none.
 FORMS = {
     "open": "nna", "add": "ffkn" + 7 * "d", "wipe": "fn", "lookup": "ffn", "common": "ff",
     "mul": 14 * "d", "inv": 7 * "d", "interp": 14 * "d" + "nnn",
     "sqrt": "d", "acos": "d", "sin": "d", "words": "", "set": "snw", "lend": "nnn",
+    "map": "m", "load": "", "frame": "b", "name": "f",
 }  # fmt: skip
 BELOW = {"f": 2**32, "n": 2**64, "k": 2, "a": 2**64}
 
@@ -40,6 +45,12 @@ def float_bits(word):
     return int(word, 16)
 
 
+def read_bytes(word):
+    if not BYTES.fullmatch(word):
+        raise Malformed
+    return bytes.fromhex(word)
+
+
 def read_word(form, word, before):
     if form == "d":
         return struct.unpack("<d", struct.pack("<Q", float_bits(word)))[0]
@@ -47,10 +58,12 @@ def read_word(form, word, before):
         if word not in LENT:
             raise Malformed
         return word
-    if form == "w":  # a word of the slice named before
+    if form == "w":
         return float_bits(word) if before[0] == "poses" else number(word, 2**64)
-    if form == "a" and word == "none":
+    if form in "am" and word == "none":
         return None
+    if form in "bm":
+        return read_bytes(word)
     return number(word, BELOW[form])
 
 
@@ -64,9 +77,13 @@ def show(value):
     return str(value)
 
 
+def show_refusal(refusal):
+    return "no " + " ".join(map(show, refusal.args))
+
+
 class Model:
     def __init__(self, strict=False):
-        self.store, self.strict = Store(), strict
+        self.store, self.file = Store(strict), b""
 
     def answer(self, line):
         """The answer to a line of bytes; None for an empty line or a comment."""
@@ -77,19 +94,16 @@ class Model:
                 raise Malformed
             name, *words = line.decode("latin-1").split(" ")
             form = FORMS.get(name)
-            if form is None or len(form) != len(words):
+            if form is None or len(form) != len(words) and line != b"frame":  # which asks for the empty name
                 raise Malformed
             taken = []
             for letter, word in zip(form, words):
                 taken.append(read_word(letter, word, taken))
-            if self.strict and self.store.rows is not None:
-                self.store.write()
-                self.store.rows = None
             return getattr(self, name)(*taken)
         except Malformed:
             return "malformed"
         except Refusal as refusal:
-            return "no " + " ".join(map(show, refusal.args))
+            return show_refusal(refusal)
 
     def open(self, e, s, age):
         if e in range(1, 257) and s in range(1, 1025) and e * s > INSTANTS:
@@ -149,6 +163,30 @@ class Model:
             raise Malformed
         self.store.lend(*lengths)
         return "done"
+
+    def map(self, part):
+        if part is None:
+            self.file = b""
+        elif len(self.file) + len(part) > MAP:
+            raise Malformed
+        else:
+            self.file += part
+        return "done"
+
+    def load(self):
+        refused = maps.load(self.store, self.file)
+        if refused is None:
+            return "done"
+        record, refusal = refused
+        return f"record {record} {show_refusal(refusal)}"
+
+    def frame(self, name=b""):
+        frame = maps.frame_of(self.file, name)
+        return "none" if frame is None else f"frame {frame}"
+
+    def name(self, frame):
+        name = maps.name_of(self.file, frame)
+        return "none" if name is None else f"name {name.hex()}"
 
 
 def main():

@@ -5,6 +5,7 @@ A scene is a list of lines. E and S of its opening are chosen last, so that they
 import math
 from collections import Counter
 
+from map_scenes import big_map_scene, byte_scene, map_scene, odd_scene
 from values import ABOVE, BELOW, LAST, ONE, SPECIAL, Values, line, word, words
 
 
@@ -272,9 +273,9 @@ def pose_scene(values):
 
 
 def scenes(rng):
-    """Scenes without end; the first has every edge."""
+    """Scenes without end; the first have every edge, every byte of a map and every odd record."""
     values = Values(rng)
-    yield edge_scene(values)
-    kinds = [tree_scene, flow_scene, pose_scene, big_scene, long_scene]
+    yield from (edge_scene(values), byte_scene(values), odd_scene(values))
+    kinds = [tree_scene, flow_scene, pose_scene, big_scene, long_scene, map_scene, big_map_scene]
     while True:
-        yield rng.choices(kinds, [45, 25, 50, 1, 1])[0](values)
+        yield rng.choices(kinds, [45, 25, 50, 1, 1, 9, 0.5])[0](values)

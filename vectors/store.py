@@ -56,7 +56,8 @@ def fold(poses):
 
 
 class Store:
-    def __init__(self):
+    def __init__(self, strict=False):
+        self.strict = strict  # the words are written and read again in every call
         self.head, self.instants, self.poses = [0] * HEAD, [0] * INSTANTS, [0] * POSES
         self.lent = (0, 0, 0)
         self.rows = None  # the map by child; None where the words must be read again
@@ -88,6 +89,9 @@ class Store:
 
     def read(self):
         """Begins a call: 1, 2, then the map."""
+        if self.strict:
+            self.write()
+            self.rows = None
         if self.rows is None:
             self.sizes()
             self.sound()
@@ -176,6 +180,13 @@ class Store:
         self.write()
         h, i, p = self.lent
         return self.head[:h], self.instants[:i], self.poses[:p]
+
+    def put_back(self, words):
+        """Every lent word as it was."""
+        self.write()
+        for memory, lent in zip((self.head, self.instants, self.poses), words):
+            memory[: len(lent)] = lent
+        self.rows = None
 
     # Calls
 

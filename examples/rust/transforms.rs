@@ -1,8 +1,10 @@
 //! A safe wrapper over the C interface (include/transforms.h). A store borrows its three slices, so
 //! that no two of them overlap and nothing else writes them during a call.
 mod ffi;
+mod map;
 mod refusal;
 
+pub use map::{LoadRefusal, Map};
 pub use refusal::Refusal;
 
 #[repr(C)]
@@ -102,6 +104,20 @@ impl Store<'_> {
         };
         let answer = answer.taken()?;
         Ok(if answer.is_static != 0 { Stamp::Static } else { Stamp::At(answer.instant) })
+    }
+
+    /// Adds each record of the map as a static frame to a store that holds none.
+    pub fn load_map(&mut self, map: Map) -> Result<(), LoadRefusal> {
+        let answer = unsafe {
+            ffi::transforms_load_map(
+                self.head.as_mut_ptr(), self.head.len(),
+                self.instants.as_mut_ptr(), self.instants.len(),
+                self.poses.as_mut_ptr(), self.poses.len(),
+                map.0.as_ptr(), map.0.len(),
+            )
+        };
+        let record = (answer.is_record != 0).then_some(answer.index);
+        answer.taken().map(|_| ()).map_err(|refusal| LoadRefusal { record, refusal })
     }
 
     /// Drops a moving child's samples before the instant.

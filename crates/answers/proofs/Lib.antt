@@ -1,2 +1,4 @@
 pub mod Behind
+pub mod ByteDigits
+pub mod NoName
 pub mod WrittenWhole

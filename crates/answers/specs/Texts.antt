@@ -1,7 +1,7 @@
 -- The text of a reply, as texts that are written one behind the other.
 use Prim.Native.Nat.{ℕ}
 use mathlib.Core.Option.{Option, none, some}
-use mathlib.Core.List.{List, [], _∷_, _++_}
+use mathlib.Core.List.{List, [], _∷_, _++_, map}
 use lib.Ieee.{Float}
 use Rattle.time.specs.Reply.{Reply, Carried, answer, refusal, nothing, norm, frame, hop}
 use Rattle.geometry.specs.declared.vector3.Vector3.{Vector3}
@@ -9,7 +9,7 @@ use Rattle.geometry.specs.declared.quaternion.Quaternion.{Quaternion}
 use Rattle.geometry.specs.declared.isometry.Isometry.{Isometry}
 use Rattle.registry.specs.Answers.{Value}
 use Rattle.registry.specs.Answers as value
-use Rattle.text.specs.Writing.{written, numberText, floatText}
+use Rattle.text.specs.Writing.{written, numberText, floatText, byteText}
 
 -- Where the texts end, and the buffer with them in it. A text without room is left out.
 unfoldable pub writtenAll : List ℕ → ℕ → List (List ℕ) → ℕ × List ℕ
@@ -66,3 +66,26 @@ valueTexts (value.at t) = instantTexts t
 abbrev pub replyTexts : Reply Value → List (List ℕ)
 replyTexts (answer v) = valueTexts v
 replyTexts (refusal k c) = refusalTexts k c
+
+-- ---- maps
+
+-- the word `none`
+abbrev pub noneWord : List ℕ
+noneWord = 110 ∷ 111 ∷ 110 ∷ 101 ∷ []
+
+-- what a load replies; a record's refusal behind `record` and its number
+abbrev pub loadTexts : Option ℕ → Reply Value → List (List ℕ)
+loadTexts none r = replyTexts r
+loadTexts (some n) r = (114 ∷ 101 ∷ 99 ∷ 111 ∷ 114 ∷ 100 ∷ []) ∷ (numberWord n ++ ((32 ∷ []) ∷ replyTexts r))
+
+-- `frame` and the number, `none`, or the refusal
+abbrev pub frameTexts : Reply (Option ℕ) → List (List ℕ)
+frameTexts (answer (some k)) = (102 ∷ 114 ∷ 97 ∷ 109 ∷ 101 ∷ []) ∷ numberWord k
+frameTexts (answer none) = noneWord ∷ []
+frameTexts (refusal k c) = refusalTexts k c
+
+-- `name` and its bytes, two digits each, `none`, or the refusal
+abbrev pub nameTexts : Reply (Option (List ℕ)) → List (List ℕ)
+nameTexts (answer (some name)) = (110 ∷ 97 ∷ 109 ∷ 101 ∷ 32 ∷ []) ∷ map byteText name
+nameTexts (answer none) = noneWord ∷ []
+nameTexts (refusal k c) = refusalTexts k c

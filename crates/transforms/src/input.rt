@@ -42,6 +42,7 @@ fn answered(
     head: &mut [u64],
     instants: &mut [u64],
     poses: &mut [f64],
+    map: &mut [u8],
     out: &mut [u8],
     before: Reply,
 ) -> Reply {
@@ -51,7 +52,7 @@ fn answered(
     let lent = before.lent;
     let to = output::spare(out, before.at);
     let n = kept(used, over, line.len());
-    let reply = memory::answer(&line[0..n], head, instants, poses, out, to, lent);
+    let reply = memory::answer(&line[0..n], head, instants, poses, map, out, to, lent);
     let at = output::line_end(out, reply.at);
     let left = reply.lent;
     Reply { at, lent: left }
@@ -73,6 +74,7 @@ fn take(
     head: &mut [u64],
     instants: &mut [u64],
     poses: &mut [f64],
+    map: &mut [u8],
     out: &mut [u8],
     st: State,
 ) -> State {
@@ -80,7 +82,7 @@ fn take(
     let over = st.over;
     let before = st.reply;
     if b == b'\n' {
-        let reply = answered(line, used, over, head, instants, poses, out, before);
+        let reply = answered(line, used, over, head, instants, poses, map, out, before);
         return State {
             used: 0,
             over: false,
@@ -104,13 +106,14 @@ fn feed(
     head: &mut [u64],
     instants: &mut [u64],
     poses: &mut [f64],
+    map: &mut [u8],
     out: &mut [u8],
     st: State,
 ) -> State {
     let mut now = st;
     let mut i = 0;
     while i < chunk.len() {
-        now = take(chunk[i], line, head, instants, poses, out, now);
+        now = take(chunk[i], line, head, instants, poses, map, out, now);
         i += 1;
     }
     now
@@ -133,12 +136,13 @@ fn turn(
     head: &mut [u64],
     instants: &mut [u64],
     poses: &mut [f64],
+    map: &mut [u8],
     out: &mut [u8],
     st: State,
 ) -> State {
     let mut chunk = io::large_buffer();
     let n = io::count(libc::read(0, &mut chunk), &chunk);
-    let next = feed(&chunk[..n], line, head, instants, poses, out, st);
+    let next = feed(&chunk[..n], line, head, instants, poses, map, out, st);
     going_on(next, n)
 }
 
@@ -156,6 +160,7 @@ fn read_all(
     head: &mut [u64],
     instants: &mut [u64],
     poses: &mut [f64],
+    map: &mut [u8],
     out: &mut [u8],
 ) -> State {
     let mut st = State {
@@ -166,7 +171,7 @@ fn read_all(
     };
     let mut turns = u64::MAX;
     while turns > 0 {
-        st = turn(line, head, instants, poses, out, st);
+        st = turn(line, head, instants, poses, map, out, st);
         turns = left(turns, st.more);
     }
     st
@@ -178,10 +183,21 @@ pub(crate) fn run(
     head: &mut [u64],
     instants: &mut [u64],
     poses: &mut [f64],
+    map: &mut [u8],
     out: &mut [u8],
 ) {
-    let st = read_all(line, head, instants, poses, out);
+    let st = read_all(line, head, instants, poses, map, out);
     let before = st.reply;
-    let reply = answered(line, st.used, st.over, head, instants, poses, out, before);
+    let reply = answered(
+        line,
+        st.used,
+        st.over,
+        head,
+        instants,
+        poses,
+        map,
+        out,
+        before,
+    );
     output::flush(out, reply.at);
 }

@@ -1,5 +1,6 @@
 // Speaks the text protocol on standard input and output: a line for an operation, a line for its answer.
 mod input;
+mod maps;
 mod memory;
 mod operands;
 mod output;
@@ -12,7 +13,15 @@ fn main() {
     let mut head = [0u64; 1029];
     let mut instants = [0u64; 65536];
     let mut poses = [0.0f64; 458752];
+    let mut map = [0u8; 65536];
     let mut line = [0u8; 512];
     let mut out = io::large_buffer();
-    input::run(&mut line, &mut head, &mut instants, &mut poses, &mut out);
+    input::run(
+        &mut line,
+        &mut head,
+        &mut instants,
+        &mut poses,
+        &mut map,
+        &mut out,
+    );
 }

@@ -1,4 +1,5 @@
 // Lending parts of the memory: which part is lent, and the operations that change that.
+use super::maps;
 use super::operands;
 use super::operands::Age;
 use super::operands::Three;
@@ -10,11 +11,12 @@ use registry::layout;
 use text::Number;
 ghost use Prim.Native.Nat.{_≤_};
 
-// How many words of each slice are lent.
+// How many words of each slice are lent, and how many bytes of the map file.
 pub(crate) struct Lent {
     head: usize,
     instants: usize,
     poses: usize,
+    map: usize,
 }
 
 // Where the answers go on, and what is lent from now on.
@@ -29,6 +31,7 @@ pub(crate) fn start() -> Reply {
         head: 0,
         instants: 0,
         poses: 0,
+        map: 0,
     };
     Reply { at: 0, lent }
 }
@@ -53,6 +56,7 @@ fn lent_for(rows: u64, capacity: u64, before: Lent) -> Lent {
         head: layout::head_length(rows),
         instants: layout::instants_length(rows, capacity),
         poses: layout::poses_length(rows, capacity),
+        map: before.map,
     }
 }
 
@@ -153,7 +157,7 @@ enum Lending {
 }
 
 // `H I P`
-fn read_lent(line: &[u8], at: usize, most: Lent) -> Lending {
+fn read_lent(line: &[u8], at: usize, before: Lent, most: Lent) -> Lending {
     let Three::Value(h, i, p) = operands::last_three(line, at) else {
         return Lending::Malformed;
     };
@@ -170,16 +174,38 @@ fn read_lent(line: &[u8], at: usize, most: Lent) -> Lending {
         head: h as usize,
         instants: i as usize,
         poses: p as usize,
+        map: before.map,
     })
 }
 
 // `lend H I P`
 fn lend(line: &[u8], at: usize, out: &mut [u8], to: usize, before: Lent, most: Lent) -> Reply {
-    let Lending::Value(lent) = read_lent(line, at, most) else {
+    let Lending::Value(lent) = read_lent(line, at, before, most) else {
         return refused(out, to, before);
     };
     let next = output::done(out, to);
     Reply { at: next, lent }
+}
+
+// `map none`, `map HEX`
+fn lend_map(
+    line: &[u8],
+    at: usize,
+    map: &mut [u8],
+    out: &mut [u8],
+    to: usize,
+    before: Lent,
+) -> Reply {
+    let file = maps::lend(line, at, map, before.map, out, to);
+    Reply {
+        at: file.at,
+        lent: Lent {
+            head: before.head,
+            instants: before.instants,
+            poses: before.poses,
+            map: file.used,
+        },
+    }
 }
 
 // The answer to a line that changes nothing of what is lent. What is lent is within the memory.
@@ -188,6 +214,7 @@ fn answer_lent(
     head: &mut [u64],
     instants: &mut [u64],
     poses: &mut [f64],
+    map: &[u8],
     out: &mut [u8],
     to: usize,
     lent: Lent,
@@ -195,11 +222,13 @@ fn answer_lent(
     let h = least(lent.head, head.len());
     let i = least(lent.instants, instants.len());
     let p = least(lent.poses, poses.len());
+    let m = least(lent.map, map.len());
     store::answer(
         line,
         &mut head[0..h],
         &mut instants[0..i],
         &mut poses[0..p],
+        &map[0..m],
         out,
         to,
     )
@@ -211,6 +240,7 @@ pub(crate) fn answer(
     head: &mut [u64],
     instants: &mut [u64],
     poses: &mut [f64],
+    map: &mut [u8],
     out: &mut [u8],
     to: usize,
     lent: Lent,
@@ -219,6 +249,7 @@ pub(crate) fn answer(
         head: head.len(),
         instants: instants.len(),
         poses: poses.len(),
+        map: map.len(),
     };
     let opened = operands::behind(line, 0, b"open");
     if opened > 0 {
@@ -228,6 +259,10 @@ pub(crate) fn answer(
     if lending > 0 {
         return lend(line, lending, out, to, lent, most);
     }
-    let at = answer_lent(line, head, instants, poses, out, to, lent);
+    let file = operands::behind(line, 0, b"map");
+    if file > 0 {
+        return lend_map(line, file, map, out, to, lent);
+    }
+    let at = answer_lent(line, head, instants, poses, map, out, to, lent);
     Reply { at, lent }
 }

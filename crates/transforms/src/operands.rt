@@ -7,6 +7,7 @@ use text::Float;
 use text::Frame;
 use text::Keyword;
 use text::Number;
+use text::Word;
 use time::stamp::Stamp;
 
 // A translation, and where the line goes on.
@@ -155,6 +156,17 @@ pub(crate) fn last_pose(line: &[u8], at: usize) -> Pose {
         return Pose::Value(p, next);
     }
     Pose::Malformed
+}
+
+// A word as the line's last.
+pub(crate) fn last_word(line: &[u8], at: usize) -> Word {
+    let Word::Until(end) = text::read_word(line, at) else {
+        return Word::Malformed;
+    };
+    if end == line.len() {
+        return Word::Until(end);
+    }
+    Word::Malformed
 }
 
 // A number as the line's last word.

@@ -1,11 +1,11 @@
 // The operations on the store in the three slices that are lent.
+use super::maps;
 use super::operands;
 use super::operands::Added;
 use super::operands::Frames;
 use super::operands::Query;
 use super::operands::Wipe;
 use super::output;
-use super::poses;
 use text::Float;
 use text::Number;
 
@@ -45,6 +45,24 @@ fn wipe(
     };
     let answer = registry::remove_before::remove_before(head, instants, poses, child, t);
     output::of_tree(out, to, answer)
+}
+
+// `load`
+fn load(
+    line: &[u8],
+    at: usize,
+    head: &mut [u64],
+    instants: &mut [u64],
+    poses: &mut [f64],
+    map: &[u8],
+    out: &mut [u8],
+    to: usize,
+) -> usize {
+    if !text::ended(line, at) {
+        return output::malformed(out, to);
+    }
+    let loaded = map_loading::load_map::load_map(head, instants, poses, map);
+    answers::write_loaded(out, to, loaded)
 }
 
 // `lookup TARGET SOURCE INSTANT`
@@ -184,6 +202,7 @@ fn answer_words(
     head: &[u64],
     instants: &[u64],
     poses: &[f64],
+    map: &[u8],
     out: &mut [u8],
     to: usize,
 ) -> usize {
@@ -191,7 +210,7 @@ fn answer_words(
     if at > 0 {
         return words(line, at, head, instants, poses, out, to);
     }
-    poses::answer(line, out, to)
+    maps::answer(line, map, out, to)
 }
 
 // The answer to a line that changes nothing.
@@ -200,6 +219,7 @@ fn answer_query(
     head: &[u64],
     instants: &[u64],
     poses: &[f64],
+    map: &[u8],
     out: &mut [u8],
     to: usize,
 ) -> usize {
@@ -211,7 +231,7 @@ fn answer_query(
     if frames > 0 {
         return common(line, frames, head, instants, poses, out, to);
     }
-    answer_words(line, head, instants, poses, out, to)
+    answer_words(line, head, instants, poses, map, out, to)
 }
 
 // The answer to a line that changes no sample by the registry.
@@ -220,6 +240,7 @@ fn answer_set(
     head: &mut [u64],
     instants: &mut [u64],
     poses: &mut [f64],
+    map: &[u8],
     out: &mut [u8],
     to: usize,
 ) -> usize {
@@ -228,7 +249,7 @@ fn answer_set(
         let written = set(line, at, head, instants, poses);
         return output::done_if(out, to, written);
     }
-    answer_query(line, head, instants, poses, out, to)
+    answer_query(line, head, instants, poses, map, out, to)
 }
 
 // The answer to a line, with these slices lent.
@@ -237,6 +258,7 @@ pub(crate) fn answer(
     head: &mut [u64],
     instants: &mut [u64],
     poses: &mut [f64],
+    map: &[u8],
     out: &mut [u8],
     to: usize,
 ) -> usize {
@@ -248,5 +270,9 @@ pub(crate) fn answer(
     if wiped > 0 {
         return wipe(line, wiped, head, instants, poses, out, to);
     }
-    answer_set(line, head, instants, poses, out, to)
+    let loaded = operands::behind(line, 0, b"load");
+    if loaded > 0 {
+        return load(line, loaded, head, instants, poses, map, out, to);
+    }
+    answer_set(line, head, instants, poses, map, out, to)
 }

@@ -2,7 +2,7 @@
 use Prim.Native.Nat.{ℕ}
 use mathlib.Core.Path.{_≡_, refl, sym, ap, _∙_}
 use mathlib.Core.Bool.{Bool, true, false, cond, not, _&&_}
-use mathlib.Core.Option.{none, some}
+use mathlib.Core.Option.{Option, none, some}
 use mathlib.Core.List.{List, [], _∷_}
 use lib.Dec.{eqb}
 use borrow.Author.Tests.{eqb-true, not-true}
@@ -13,8 +13,8 @@ use Rattle.registry.specs.Tree.{member}
 use Rattle.registry.specs.Answers.{Value, done, pose, static, at, withNothing, withNorm, withFrame, withHop}
 use Rattle.registry.specs.Replies.{Form, ofDone, ofPose, ofTime, fits, posed}
 use Rattle.transforms_c.specs.declared.answer.Answer.{Answer}
-use Rattle.transforms_c.specs.Flat.{flat}
-use Rattle.transforms_c.specs.Laws.{FlatFixes, FlatPoseFixes}
+use Rattle.transforms_c.specs.Flat.{flat, flatLoad}
+use Rattle.transforms_c.specs.Laws.{FlatFixes, FlatPoseFixes, FlatLoadFixes}
 
 -- ---- the numbers of two lists
 
@@ -83,3 +83,36 @@ posed-injective (refusal k c) (refusal n d) e = cc e
 
 pub flatPoseFixes : FlatPoseFixes
 flatPoseFixes r q h g e = posed-injective r q (flatFixes ofPose (posed r) (posed q) h g e)
+
+-- ---- loads
+
+recordIn : Answer → Option ℕ
+recordIn a = cond (eqb (a .«is_record») 1) (some (a .index)) none
+
+no-record : (r : Reply Value) → recordIn (flat r) ≡ none
+unfolding recordIn
+no-record (answer done) = refl
+no-record (answer (pose p)) = refl
+no-record (answer static) = refl
+no-record (answer (at i)) = refl
+no-record (refusal k nothing) = refl
+no-record (refusal k (norm x)) = refl
+no-record (refusal k (frame f)) = refl
+no-record (refusal k (hop f none)) = refl
+no-record (refusal k (hop f (some r))) = refl
+
+record-back : (m : Option ℕ) (r : Reply Value) → recordIn (flatLoad m r) ≡ m
+unfolding recordIn
+record-back none r = no-record r
+record-back (some n) r = refl
+
+load-back : (m : Option ℕ) (r : Reply Value) → fits ofDone r ≡ true → replyIn ofDone (flatLoad m r) ≡ r
+unfolding replyIn valueOf carriedOf
+load-back none r h = back ofDone r h
+load-back (some n) r h = back ofDone r h
+
+pub flatLoadFixes : FlatLoadFixes
+flatLoadFixes m n r q h g e = (
+  sym (record-back m r) ∙ ap recordIn e ∙ record-back n q,
+  sym (load-back m r h) ∙ ap (replyIn ofDone) e ∙ load-back n q g,
+)

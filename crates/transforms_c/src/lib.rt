@@ -3,5 +3,6 @@ pub mod answer;
 mod flags;
 mod flat;
 pub mod lengths;
+pub mod maps;
 pub mod poses;
 pub mod store;

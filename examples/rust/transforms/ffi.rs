@@ -8,10 +8,12 @@ pub struct Answer {
     pub frame: u32,
     pub has_range: u32,
     pub is_static: u32,
+    pub is_record: u32,
     pub start: u64,
     pub end: u64,
     pub norm: f64,
     pub instant: u64,
+    pub index: u64,
     pub pose: Isometry,
 }
 
@@ -39,9 +41,28 @@ impl Answer {
             15 => Refusal::DurationUnderflow,
             16 => Refusal::TreeFull,
             17 => Refusal::RowFull,
+            18 => Refusal::MapForm,
+            19 => Refusal::StoreInUse,
             number => Refusal::Other { number },
         })
     }
+}
+
+/// `transforms_frame_answer`.
+#[repr(C)]
+pub struct FrameAnswer {
+    pub number: u32,
+    pub is_known: u32,
+    pub frame: u32,
+}
+
+/// `transforms_name_answer`.
+#[repr(C)]
+pub struct NameAnswer {
+    pub number: u32,
+    pub is_known: u32,
+    pub start: usize,
+    pub count: usize,
 }
 
 #[rustfmt::skip]
@@ -66,6 +87,12 @@ extern "C" {
         head: *mut u64, head_len: usize, instants: *mut u64, instants_len: usize, poses: *mut f64, poses_len: usize,
         child: u32, instant: u64,
     ) -> Answer;
+    pub fn transforms_load_map(
+        head: *mut u64, head_len: usize, instants: *mut u64, instants_len: usize, poses: *mut f64, poses_len: usize,
+        map: *const u8, map_len: usize,
+    ) -> Answer;
+    pub fn transforms_map_frame(map: *const u8, map_len: usize, name: *const u8, name_len: usize) -> FrameAnswer;
+    pub fn transforms_map_name(map: *const u8, map_len: usize, frame: u32) -> NameAnswer;
     pub fn transforms_mul(a: Isometry, b: Isometry) -> Isometry;
     pub fn transforms_inverse(pose: Isometry) -> Answer;
     pub fn transforms_interpolate(a: Isometry, b: Isometry, start: u64, end: u64, query: u64) -> Answer;

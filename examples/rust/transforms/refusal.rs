@@ -23,6 +23,8 @@ pub enum Refusal {
     DurationUnderflow,
     TreeFull,
     RowFull,
+    MapForm,
+    StoreInUse,
     /// A refusal of a newer library, which has no name here.
     Other { number: u32 },
 }
@@ -47,6 +49,8 @@ impl Refusal {
             Refusal::DurationUnderflow => 15,
             Refusal::TreeFull => 16,
             Refusal::RowFull => 17,
+            Refusal::MapForm => 18,
+            Refusal::StoreInUse => 19,
             Refusal::Other { number } => *number,
         }
     }

@@ -14,5 +14,6 @@ pub mod time;
 pub use crate::core::Registry;
 pub use crate::geometry::{Localized, Transform, Transformable};
 
+mod maps;
 pub mod protocol;
 mod text;

@@ -3,6 +3,8 @@
 use crate::{
     Registry, Transform,
     errors::{QuaternionError, RegistryError, TimeError, TransformError},
+    geometry::transform::Isometry,
+    maps::{MapFile, book, place},
     text::{float, frame, number, pose, show, show_pose},
     time::{Stamp, Timestamp},
 };
@@ -15,6 +17,7 @@ const LONGEST: usize = 512;
 #[derive(Default)]
 pub struct Oracle {
     registry: Option<Registry<Timestamp>>,
+    file: MapFile,
 }
 
 impl Oracle {
@@ -45,8 +48,7 @@ impl Oracle {
                     _ => return None,
                 };
                 let p = pose(p)?;
-                let added = Transform::unvalidated(parent, child, p.translation, p.rotation, stamp);
-                self.with(|held| reply(held.add_transform(added), |()| "done".into()))
+                self.with(|held| reply(add(held, child, parent, stamp, p), |()| "done".into()))
             }
             ("wipe", [child, instant]) => {
                 let (child, before) = (frame(child)?, instant_of(instant)?);
@@ -65,6 +67,8 @@ impl Oracle {
                 let (target, source) = (frame(target)?, frame(source)?);
                 self.with(|held| reply(held.latest_common_time(&target, &source), stamp_of))
             }
+            ("load", []) => Some(self.load()),
+            ("map" | "frame" | "name", _) => self.file.operation(name, words),
             _ => leaf(name, words),
         }
     }
@@ -80,6 +84,39 @@ impl Oracle {
     fn with(&mut self, call: impl FnOnce(&mut Registry<Timestamp>) -> String) -> Option<String> {
         Some(self.registry.as_mut().map_or("no 1".into(), call))
     }
+
+    /// The map's records as additions of static frames, up to the first that is refused.
+    fn load(&mut self) -> String {
+        let Some(held) = &mut self.registry else {
+            return "no 1".into();
+        };
+        if !held.is_empty() {
+            return "no 19".into();
+        }
+        let Some(records) = self.file.records() else {
+            return "no 18".into();
+        };
+        let names = book(&records);
+        let frame = |name| place(&names, name).map_or(String::new(), |number| number.to_string());
+        for (number, record) in records.iter().enumerate() {
+            let (child, parent) = (frame(record.child), frame(record.parent));
+            if let Err(error) = add(held, child, parent, Stamp::Static, record.pose) {
+                *held = held.anew();
+                return format!("record {number} no {}", refusal(error));
+            }
+        }
+        "done".into()
+    }
+}
+
+fn add(
+    held: &mut Registry<Timestamp>,
+    child: String,
+    parent: String,
+    stamp: Stamp<Timestamp>,
+    p: Isometry,
+) -> Result<(), RegistryError<Timestamp>> {
+    held.add_transform(Transform::unvalidated(parent, child, p.translation, p.rotation, stamp))
 }
 
 /// The operations without a store.

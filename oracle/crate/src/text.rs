@@ -1,4 +1,4 @@
-//! The protocol's words: numbers, floats and poses, read and written.
+//! The protocol's words: numbers, floats, poses and bytes, read and written.
 use crate::geometry::{Quaternion, Vector3, transform::Isometry};
 
 /// Decimal digits of a number that fits 64 bits.
@@ -7,25 +7,45 @@ pub(crate) fn number(word: &str) -> Option<u64> {
     if digits { word.parse().ok() } else { None }
 }
 
+pub(crate) fn frame_number(word: &str) -> Option<u32> {
+    u32::try_from(number(word)?).ok()
+}
+
 /// A frame is handed to the Rust as its digits, without leading zeros.
 pub(crate) fn frame(word: &str) -> Option<String> {
-    let small = u32::try_from(number(word)?).ok()?;
-    Some(small.to_string())
+    Some(frame_number(word)?.to_string())
+}
+
+/// Lower-case hexadecimal digits.
+fn digits(word: &str) -> bool {
+    word.bytes().all(|b| matches!(b, b'0'..=b'9' | b'a'..=b'f'))
 }
 
 /// The 16 lower-case hexadecimal digits of a float's bits.
 pub(crate) fn float(word: &str) -> Option<f64> {
-    let lower = |b: u8| matches!(b, b'0'..=b'9' | b'a'..=b'f');
-    if word.len() != 16 || !word.bytes().all(lower) {
+    if word.len() != 16 || !digits(word) {
         return None;
     }
     u64::from_str_radix(word, 16).ok().map(f64::from_bits)
 }
 
-/// Seven floats: translation x, y, z, then rotation w, x, y, z.
+/// 1 to 240 bytes, two lower-case hexadecimal digits each.
+pub(crate) fn bytes(word: &str) -> Option<Vec<u8>> {
+    let count = word.len() / 2;
+    if word.len() != 2 * count || !(1..=240).contains(&count) || !digits(word) {
+        return None;
+    }
+    (0..count).map(|k| u8::from_str_radix(&word[2 * k..2 * k + 2], 16).ok()).collect()
+}
+
 pub(crate) fn pose(words: &[&str]) -> Option<Isometry> {
     let floats: Option<Vec<f64>> = words.iter().map(|word| float(word)).collect();
-    let [x, y, z, w, i, j, k] = floats?[..] else {
+    isometry(&floats?)
+}
+
+/// Seven floats: translation x, y, z, then rotation w, x, y, z.
+pub(crate) fn isometry(floats: &[f64]) -> Option<Isometry> {
+    let [x, y, z, w, i, j, k] = *floats else {
         return None;
     };
     Some(Isometry {
@@ -40,6 +60,10 @@ pub(crate) fn show(v: f64) -> String {
     } else {
         format!("{:016x}", v.to_bits())
     }
+}
+
+pub(crate) fn show_bytes(bytes: &[u8]) -> String {
+    bytes.iter().map(|byte| format!("{byte:02x}")).collect()
 }
 
 pub(crate) fn show_pose(p: Isometry) -> String {

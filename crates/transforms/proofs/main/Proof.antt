@@ -29,7 +29,10 @@ slice-aggregate-run-4 : tie.Need-slice-aggregate-run-4
 slice-aggregate-run-4 c = floats 458752 (ofBits binary64 0)
 
 slice-aggregate-run-5 : tie.Need-slice-aggregate-run-5
-slice-aggregate-run-5 c = search needs
+slice-aggregate-run-5 c = words 65536 0
+
+slice-aggregate-run-6 : tie.Need-slice-aggregate-run-6
+slice-aggregate-run-6 c = search needs
 
 run-requires : tie.Need-run-requires
 run-requires c κs = tt
@@ -47,5 +50,6 @@ main-spec =
     slice-aggregate-run-3
     slice-aggregate-run-4
     slice-aggregate-run-5
+    slice-aggregate-run-6
     run-requires
     returns)

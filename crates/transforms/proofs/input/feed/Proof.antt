@@ -1,16 +1,17 @@
 -- `input::feed` is safe and ends. Assumes nothing.
 use mathlib.Core.Path.{_≡_}
 use Prim.Native.Nat.{_-_}
+use native.Mathlib.Omega.{arith}
 use borrow.Author.Needs.{needs}
 use lib.ListN.{length}
 use Rattle.transforms.proofs.input.feed.Statement.{statement}
 use Rattle.transforms.proofs.input.feed.Tie as tie
 
 abbrev Inv-loop : tie.InvT-loop
-Inv-loop chunk line₀ head₀ instants₀ poses₀ out₀ now₀ i₀ line head instants poses out now i = (length line ≡ length line₀) × (length head ≡ length head₀) × (length instants ≡ length instants₀) × (length poses ≡ length poses₀) × (length out ≡ length out₀)
+Inv-loop chunk line₀ head₀ instants₀ poses₀ map₀ out₀ now₀ i₀ line head instants poses map out now i = (length line ≡ length line₀) × (length head ≡ length head₀) × (length instants ≡ length instants₀) × (length poses ≡ length poses₀) × (length map ≡ length map₀) × (length out ≡ length out₀)
 
 abbrev μ-loop : tie.MeasureT-loop
-μ-loop chunk line₀ head₀ instants₀ poses₀ out₀ now₀ i₀ line head instants poses out now i = length chunk - i
+μ-loop chunk line₀ head₀ instants₀ poses₀ map₀ out₀ now₀ i₀ line head instants poses map out now i = length chunk - i
 
 loop-holds : tie.Need-loop-holds Inv-loop μ-loop
 loop-holds c = search needs
@@ -22,7 +23,7 @@ take-requires : tie.Need-take-requires Inv-loop μ-loop
 take-requires c κs = search needs
 
 add-i : tie.Need-add-i Inv-loop μ-loop
-add-i c = search needs
+add-i c = omega (arith, c .before .before .before .before .before .before .before .before .before .before .before .before .before .before .before .before .before .before .before .before .before .before .before .before .before .before .before .before .before .good .0)
 
 loop-less : tie.Need-loop-less Inv-loop μ-loop
 loop-less c = search needs
@@ -45,6 +46,9 @@ same-length-4 c = search needs
 same-length-5 : tie.Need-same-length-5 Inv-loop μ-loop
 same-length-5 c = search needs
 
+same-length-6 : tie.Need-same-length-6 Inv-loop μ-loop
+same-length-6 c = search needs
+
 returns : tie.Need-returns Inv-loop μ-loop
 returns c = search needs
 
@@ -65,4 +69,5 @@ feed-spec =
     same-length-3
     same-length-4
     same-length-5
+    same-length-6
     returns)

@@ -6,10 +6,10 @@ use Rattle.transforms.proofs.input.read_all.Statement.{statement}
 use Rattle.transforms.proofs.input.read_all.Tie as tie
 
 abbrev Inv-loop : tie.InvT-loop
-Inv-loop line₀ head₀ instants₀ poses₀ out₀ st₀ turns₀ line head instants poses out st turns = (length line ≡ length line₀) × (length head ≡ length head₀) × (length instants ≡ length instants₀) × (length poses ≡ length poses₀) × (length out ≡ length out₀)
+Inv-loop line₀ head₀ instants₀ poses₀ map₀ out₀ st₀ turns₀ line head instants poses map out st turns = (length line ≡ length line₀) × (length head ≡ length head₀) × (length instants ≡ length instants₀) × (length poses ≡ length poses₀) × (length map ≡ length map₀) × (length out ≡ length out₀)
 
 abbrev μ-loop : tie.MeasureT-loop
-μ-loop line₀ head₀ instants₀ poses₀ out₀ st₀ turns₀ line head instants poses out st turns = turns
+μ-loop line₀ head₀ instants₀ poses₀ map₀ out₀ st₀ turns₀ line head instants poses map out st turns = turns
 
 start-requires : tie.Need-start-requires Inv-loop μ-loop
 start-requires c κs = search needs
@@ -44,6 +44,9 @@ same-length-4 c = search needs
 same-length-5 : tie.Need-same-length-5 Inv-loop μ-loop
 same-length-5 c = search needs
 
+same-length-6 : tie.Need-same-length-6 Inv-loop μ-loop
+same-length-6 c = search needs
+
 returns : tie.Need-returns Inv-loop μ-loop
 returns c = search needs
 
@@ -64,4 +67,5 @@ read-all-spec =
     same-length-3
     same-length-4
     same-length-5
+    same-length-6
     returns)

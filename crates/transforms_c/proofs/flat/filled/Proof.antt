@@ -40,7 +40,7 @@ returns-2 : tie.Need-returns-2
 returns-2 c = rw (c .before .before .reply .given .1) (c .posed .ensures)
 
 returns-3 : tie.Need-returns-3
-returns-3 c = search needs
+returns-3 c = rw (c .before .enum-told2 .given .1) (c .any-instant .ensures)
 
 returns-4 : tie.Need-returns-4
 returns-4 c = rw (c .before .before .reply2 .given .1) (c .at-instant .ensures)

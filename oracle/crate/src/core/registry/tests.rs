@@ -1,4 +1,5 @@
-//! Glue: `Buffer::remove_before` for one child. `Registry::data` is private to the parent module.
+//! Glue: `Buffer::remove_before` for one child, whether there is a child, and a registry of the same age.
+//! The fields of `Registry` are private to the parent module.
 use super::Registry;
 use crate::time::Timestamp;
 
@@ -7,5 +8,13 @@ impl Registry<Timestamp> {
     pub(crate) fn wipe(&mut self, child: &str, before: Timestamp) -> bool {
         let buffer = self.data.get_mut(child);
         buffer.map(|held| held.remove_before(before)).is_some()
+    }
+
+    pub(crate) fn is_empty(&self) -> bool {
+        self.data.is_empty()
+    }
+
+    pub(crate) fn anew(&self) -> Self {
+        self.max_age.map_or_else(Self::new, Self::with_max_age)
     }
 }

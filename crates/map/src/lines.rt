@@ -1,0 +1,23 @@
+// A line of what is printed, put together in a buffer. The next place is answered.
+
+// More bytes than the longest line has: 256 levels, a name of 32 bytes of four characters each and three figures.
+pub(crate) const LINE_BYTES: usize = 1024;
+
+// Ends the line and prints it.
+pub(crate) fn print(out: &mut [u8], at: usize) {
+    let end = text::write_bytes(out, at, b"\n");
+    if end <= out.len() {
+        io::write_all(libc::STDOUT_FILENO, &out[0..end]);
+    }
+}
+
+// Two spaces a level.
+pub(crate) fn put_indent(out: &mut [u8], at: usize, level: usize) -> usize {
+    let mut to = at;
+    let mut i = 0;
+    while i < level {
+        to = text::write_bytes(out, to, b"  ");
+        i += 1;
+    }
+    to
+}
