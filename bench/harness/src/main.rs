@@ -1,6 +1,7 @@
 //! Measures the product and the Rust in one run on the same inputs, and prints tables in Markdown.
 mod changes;
 mod lookups;
+mod maps;
 mod measure;
 mod newcomers;
 #[rustfmt::skip] // a store is six arguments, which stand on one line
@@ -26,9 +27,10 @@ fn main() {
     let leaves = poses::rows(rounds);
     let passes: Vec<_> = SIZES.iter().flat_map(|&(rows, samples)| pass::rows(rounds, rows, samples)).collect();
     let stores: Vec<_> = SIZES.iter().map(|&(rows, samples)| store(rounds, rows, samples)).collect();
+    let (load, book, largest) = (maps::load(rounds), maps::book(rounds), maps::largest());
     println!("{}", table::legend(rounds));
     print!("{}{}{}", targets::table(&leaves, &passes, &stores), table::leaves(&leaves), table::passes(&passes));
     for (size, rows) in &stores {
         print!("{}", table::calls(&format!("Store {size}"), rows));
-    }
+    }    print!("{}", table::maps(load, book, largest));
 }

@@ -9,11 +9,32 @@ pub struct Answer {
     pub frame: u32,
     pub has_range: u32,
     pub is_static: u32,
+    pub is_record: u32,
     pub start: u64,
     pub end: u64,
     pub norm: f64,
     pub instant: u64,
+    pub index: u64,
     pub pose: Pose,
+}
+
+/// `transforms_frame_answer`.
+#[repr(C)]
+#[derive(Clone, Copy)]
+pub struct FrameAnswer {
+    pub number: u32,
+    pub is_known: u32,
+    pub frame: u32,
+}
+
+/// `transforms_name_answer`.
+#[repr(C)]
+#[derive(Clone, Copy)]
+pub struct NameAnswer {
+    pub number: u32,
+    pub is_known: u32,
+    pub start: usize,
+    pub count: usize,
 }
 
 // A store as arguments: three pointers, each with its length.
@@ -29,6 +50,9 @@ unsafe extern "C" {
     fn transforms_get_transform(h: Words, hn: N, i: Words, n: N, p: Floats, pn: N, target: u32, source: u32, instant: u64) -> Answer;
     fn transforms_latest_common_time(h: Words, hn: N, i: Words, n: N, p: Floats, pn: N, target: u32, source: u32) -> Answer;
     fn transforms_remove_before(h: WordsMut, hn: N, i: WordsMut, n: N, p: FloatsMut, pn: N, child: u32, instant: u64) -> Answer;
+    fn transforms_load_map(h: WordsMut, hn: N, i: WordsMut, n: N, p: FloatsMut, pn: N, map: *const u8, mn: N) -> Answer;
+    fn transforms_map_frame(map: *const u8, mn: N, name: *const u8, nn: N) -> FrameAnswer;
+    fn transforms_map_name(map: *const u8, mn: N, frame: u32) -> NameAnswer;
 
     fn inner_check(h: Words, hn: N, i: Words, n: N, p: Floats, pn: N) -> u32;
     fn inner_add_transform(h: WordsMut, hn: N, i: WordsMut, n: N, p: FloatsMut, pn: N, child: u32, parent: u32, is_static: u32, instant: u64, pose: Pose) -> Answer;
@@ -126,6 +150,15 @@ impl Store {
         unsafe { (calls.wipe)(h.as_mut_ptr(), h.len(), i.as_mut_ptr(), i.len(), p.as_mut_ptr(), p.len(), child, instant) }
     }
 
+    pub fn load(&mut self, map: &[u8]) -> Answer {
+        let (h, i, p) = (&mut self.head, &mut self.instants, &mut self.poses);
+        unsafe {
+            transforms_load_map(
+                h.as_mut_ptr(), h.len(), i.as_mut_ptr(), i.len(), p.as_mut_ptr(), p.len(), map.as_ptr(), map.len(),
+            )
+        }
+    }
+
     /// Copies the head and one row from a store of the same sizes.
     pub fn refresh(&mut self, other: &Store, row: usize) {
         let samples = self.head[1] as usize;
@@ -140,4 +173,14 @@ impl Store {
         self.instants.copy_from_slice(&other.instants);
         self.poses.copy_from_slice(&other.poses);
     }
+}
+
+/// The number of a name of a map file.
+pub fn frame_of(map: &[u8], name: &[u8]) -> FrameAnswer {
+    unsafe { transforms_map_frame(map.as_ptr(), map.len(), name.as_ptr(), name.len()) }
+}
+
+/// The name of a number.
+pub fn name_of(map: &[u8], frame: u32) -> NameAnswer {
+    unsafe { transforms_map_name(map.as_ptr(), map.len(), frame) }
 }

@@ -93,3 +93,27 @@ pub fn leaves(rows: &[Row]) -> String {
     }
     out + "\n"
 }
+
+/// A load of 256 records; the last name and the last number of a file of 256 records, and of the largest one.
+pub fn maps([load, singly, rust]: [f64; 3], (book, names): ([f64; 2], usize), (largest, most): ([f64; 2], usize)) -> String {
+    let [number, named] = book.map(ns);
+    let [number_most, named_most] = largest.map(|seconds| format!("{seconds:.1} s"));
+    format!(
+        "### Maps
+
+| what | ours | ours, by 256 single additions | the Rust, by 256 additions | ours / Rust |
+|---|---:|---:|---:|---:|
+| load of 256 records into a store of 256x1 | {} | {} | {} | {:.2} |
+
+| the book of names | file of {names} names, the last | largest file, {most} names, the last |
+|---|---:|---:|
+| number of a name | {number} | {number_most} |
+| name of a number | {named} | {named_most} |
+
+",
+        ns(load),
+        ns(singly),
+        ns(rust),
+        load / rust
+    )
+}
