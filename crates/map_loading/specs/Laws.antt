@@ -54,11 +54,12 @@ LoadRepliesFit = (s : Store) (bytes : List ℕ) → fits ofDone (loadOf s bytes 
 abbrev pub loadOrder : List ℕ
 loadOrder = lent (19 ∷ 18 ∷ [])
 
--- 18 is due where the file has no records of the form, 19 where the store holds a frame
+-- there is none
 abbrev pub isNone : {A : Type 0} → Option A → Bool
 isNone none = true
 isNone (some a) = false
 
+-- 18: the file does not have the form; 19: the store holds a frame
 unfoldable pub loadDue : Store → List ℕ → Dues
 loadDue s bytes = lentDue s ((18, when (isNone (records bytes)) nothing) ∷ (19, when (not (holdsNoFrame (treeOf s))) nothing) ∷ [])
 
