@@ -5,6 +5,7 @@ A model follows the script, so that a scene knows the words that it breaks and p
 from functools import partial
 
 import rules
+from decimals import LIKE_DECIMALS, NOT_TAKEN, TAKEN, equal
 from lines import wrong_lines
 from map_scenes import longest_file, most_names, tight_map
 from model import Model
@@ -38,8 +39,12 @@ class Script:
         back = []
         for name, place, number in changes:
             back.insert(0, (name, place, getattr(self.model.store, name)[place]))
-            self.say("set", name, place, f"{number:016x}" if name == "poses" else number)
+            self.say("set", name, place, self.float(number) if name == "poses" else number)
         return back
+
+    def float(self, bits):
+        """A float's bits, or a decimal that is equal to it."""
+        return equal(self.rng, f"{bits:016x}") if self.rng.random() < 0.3 else f"{bits:016x}"
 
     def ways(self, *kinds):
         """The changes of rules.py for the words as they are."""
@@ -81,7 +86,7 @@ def openings(script):
     for e, s in rng.sample(wrong, 4) + rng.sample(beyond, 2) + rng.sample(sizes, 1):
         script.say("open", e, s, rng.choice(["none", 0, 7, LAST]))
         script.say("lookup", 1, 1, 0)
-    script.say("add", 2, 1, 0, 0, *script.values.pose())
+    script.say("add", 2, 1, 0, 0, *script.values.said(script.values.pose()))
     script.say("open", 2, 1, "none")
 
 
@@ -100,8 +105,8 @@ def five_rows(script, age=None):
     tree.kind = {a: 0, b: 1, c: 1, d: 1}
     tree.clock = [start, start + 10, start + 20]
     script.say("open", rules.E, rules.S, age or rng.choice(["none", 20]))
-    plain = ["3ff0000000000000"] + 3 * ["0000000000000000"]
-    script.say("add", a, tree.above[a], 0, rng.choice([0, LAST]), *script.values.pose()[:3], *plain)
+    pose = script.values.pose()[:3] + ["3ff0000000000000"] + 3 * ["0000000000000000"]
+    script.say("add", a, tree.above[a], 0, rng.choice([0, LAST]), *script.values.said(pose))
     for child, instants in ((d, [start]), (c, tree.clock), (b, tree.clock[1:])):
         for at in rng.sample(instants, len(instants)):
             while script.say(tree.sample(child, at)) != "done":
@@ -159,6 +164,17 @@ def any_words(script):
         script.calls(tree, 2)
         if rng.random() < 0.8:
             script.set(back)
+
+
+def decimals(script):
+    """Every bound of a decimal's form as a word."""
+    five_rows(script)
+    for place, text in enumerate(script.rng.sample(TAKEN + LIKE_DECIMALS, len(TAKEN + LIKE_DECIMALS))):
+        script.say("set", "poses", place, text)
+    script.say("words")
+    for text in NOT_TAKEN:
+        script.say("set", "poses", script.rng.randrange(105), text)
+    script.say("words")
 
 
 # Lent lengths
@@ -258,6 +274,7 @@ def scenes(rng):
         partial(every_rule, age="none"),
         partial(every_rule, age=20),
         partial(malformed, most=1000),
+        decimals,
         openings,
         fitting,
         most_names,

@@ -33,11 +33,12 @@ def wrong_lines(rng, good):
         "frame 61 62", "frame none", "frame " + 241 * "61", "frame " + 240 * "61", "frame  61", "name", "name ",
         "name -1", "name +1", "name a", "name 0x1", "name 1 2", "name none", f"name {2**32}", f"name {2**64}",
         f"name {2**32 - 1}", "name 1.0", "name  1", "names 1",
-        "#", "# " + "n" * 510, "", "x" * 512, "x" * 513, "x" * 1024, "x" * 5000, "x" * 512 + "sqrt " + f,
+        "#", "# " + "n" * 510, "# " + "n" * 511, "#" * 5000, "",
+        "x" * 512, "x" * 513, "x" * 1024, "x" * 5000, "x" * 512 + "sqrt " + f,
     ]  # fmt: skip
     for size in (511, 512, 513, 514):  # leading zeros make a line of any length
         fixed += ["common " + "1 2".rjust(size - 7, "0"), "lookup " + "7 7 0".rjust(size - 7, "0")]
-        fixed.append("name " + "1".rjust(size - 5, "0"))
+        fixed += ["name " + "1".rjust(size - 5, "0"), "sqrt " + "4".rjust(size - 5, "0"), "sqrt 4e".ljust(size, "0")]
     fixed += ["sqrt " + f + " " * (size - 21) for size in (512, 513)]
     for _ in range(40):
         text = rng.choice(good)
@@ -46,7 +47,7 @@ def wrong_lines(rng, good):
         if kind == 0:
             text = text[:place] + text[place + 1 :]
         elif kind == 1:
-            text = text[:place] + rng.choice(" \t-+.xG#,") + text[place:]
+            text = text[:place] + rng.choice(" \t-+.exG#,") + text[place:]
         elif kind == 2:
             text = text[:place] + rng.choice(" xFz!") + text[place + 1 :]
         else:

@@ -156,7 +156,8 @@ class Map:
         return self.values.instant(self.clock)
 
     def added(self):
-        return line("add", self.frame(), self.frame(), self.rng.randrange(2), self.when(), *self.values.pose())
+        pose = self.values.said(self.values.pose())
+        return line("add", self.frame(), self.frame(), self.rng.randrange(2), self.when(), *pose)
 
     def call(self):
         kind = self.rng.random()

@@ -6,6 +6,7 @@
 import re
 import struct
 import sys
+from fractions import Fraction
 
 import maps
 import poses
@@ -14,7 +15,8 @@ from store import HEAD, INSTANTS, POSES, Store
 
 LONGEST = 512
 NUMBER = re.compile(r"[0-9]+")
-FLOAT = re.compile(r"[0-9a-f]{16}")
+BITS = re.compile(r"[0-9a-f]{16}")
+DECIMAL = re.compile(r"(-?)([0-9]+)(?:\.([0-9]+))?(?:e(-?)([0-9]+))?")
 BYTES = re.compile(r"([0-9a-f]{2}){1,240}")
 MAP = 65_536
 LENT = {"head": HEAD, "instants": INSTANTS, "poses": POSES}
@@ -39,10 +41,24 @@ def number(word, below):
     return int(word)
 
 
-def float_bits(word):
-    if not FLOAT.fullmatch(word):
+def decimal(word):
+    """At most 15 digits times ten to a power from -22 to 22, rounded once from the exact number."""
+    form = DECIMAL.fullmatch(word)
+    if not form:
         raise Malformed
-    return int(word, 16)
+    below, before, behind, below_one, exponent = form.groups(default="")
+    digits = (before + behind).lstrip("0")
+    power = number(exponent or "0", 2**64) * (-1 if below_one else 1) - len(behind)
+    if len(digits) > 15 or not -22 <= power <= 22:
+        raise Malformed
+    size = float(int(digits or "0") * Fraction(10) ** power)
+    return -size if below else size  # minus zero, too
+
+
+def float_bits(word):
+    if BITS.fullmatch(word):
+        return int(word, 16)
+    return struct.unpack("<Q", struct.pack("<d", decimal(word)))[0]
 
 
 def read_bytes(word):

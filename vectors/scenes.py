@@ -5,6 +5,7 @@ A scene is a list of lines. E and S of its opening are chosen last, so that they
 import math
 from collections import Counter
 
+from decimals import LIKE_DECIMALS, NOT_TAKEN, TAKEN, almost, any_decimal
 from map_scenes import big_map_scene, byte_scene, map_scene, odd_scene
 from values import ABOVE, BELOW, LAST, ONE, SPECIAL, Values, line, word, words
 
@@ -50,7 +51,7 @@ class Tree:
 
     def sample(self, child, instant=None):
         at = self.when() if instant is None else instant
-        return line("add", child, self.above[child], self.kind[child], at, *self.values.pose())
+        return line("add", child, self.above[child], self.kind[child], at, *self.values.said(self.values.pose()))
 
     def cover(self):
         """Every edge in any order, moving ones with both ends of the clock."""
@@ -67,7 +68,7 @@ class Tree:
         child = rng.choice(list(self.above))
         parent, kind = self.above[child], self.kind[child]
         pose = values.pose()
-        kind_of_no = rng.randrange(7)
+        kind_of_no = rng.randrange(8)
         if kind_of_no == 0:
             pose = values.not_finite()
         elif kind_of_no == 1:
@@ -85,6 +86,9 @@ class Tree:
             parent = rng.choice([parent, child, self.frame()])
             kind = rng.choice([kind, 1 - kind])
             pose = rng.choice([pose, values.pose(), values.not_finite(), values.not_unit(), values.wild_pose()])
+        pose = values.said(pose)
+        if kind_of_no == 7:
+            pose[rng.randrange(7)] = almost(rng)
         return line("add", child, parent, kind, self.when(), *pose)
 
     def root(self, frame):
@@ -183,6 +187,14 @@ def long_scene(values):
 # Pose operations
 
 
+def said(values, *poses):
+    """Poses as a pose operation has them; now and then one word is no float."""
+    floats = [word for pose in poses for word in values.said(pose)]
+    if values.rng.random() < 0.03:
+        floats[values.rng.randrange(len(floats))] = almost(values.rng)
+    return floats
+
+
 def ends(values):
     """Two poses for an interpolation."""
     rng = values.rng
@@ -208,30 +220,30 @@ def interp(values):
         start, end = end, start
     query = rng.choice([start, end, values.instant(clock), values.instant(sorted([start, end]))])
     a, b = ends(values)
-    return line("interp", *a, *b, start, end, query)
+    return line("interp", *said(values, a, b), start, end, query)
 
 
 def inv(values):
     rng = values.rng
     kind = rng.randrange(4)
     if kind == 0:
-        return line("inv", *values.wild_pose())
+        return line("inv", *said(values, values.wild_pose()))
     q = values.rotation()
     if kind == 1:  # about the smallest norm, or any
         factor = rng.choice([2.0**-52, 2.0**-53, 2.0**-52 * (1 - 2.0**-53), 1e154, 1e155, abs(values.scaled())])
         q = [c * factor for c in q]
-    return line("inv", *words(values.translation() + q))
+    return line("inv", *said(values, words(values.translation() + q)))
 
 
 def mul(values):
     a, b = (values.wild_pose() if values.rng.random() < 0.3 else values.pose() for _ in range(2))
-    return line("mul", *a, *b)
+    return line("mul", *said(values, a, b))
 
 
 def leaf(values):
     rng = values.rng
     name = rng.choice(["sqrt", "acos", "sin"])
-    kind = rng.randrange(6)
+    kind = rng.randrange(9)
     if kind == 0:
         value = values.wild()
     elif kind == 1:
@@ -242,6 +254,10 @@ def leaf(values):
         value = word(rng.uniform(0, math.pi / 2))
     elif kind == 4:
         value = f"{rng.getrandbits(rng.randrange(1, 64)):016x}"
+    elif kind == 5:
+        value = almost(rng)
+    elif kind < 8:
+        value = any_decimal(rng)
     else:
         near = rng.choice(SPECIAL) + rng.randrange(-3, 4)
         value = f"{near % 2**64:016x}"
@@ -267,15 +283,35 @@ def edge_scene(values):
     return opened(values, [5], lines)
 
 
+def decimal_scene(values):
+    """Every bound of a decimal's form: under a function, as a pose, in a pose; and decimals at the tolerance."""
+    rng = values.rng
+    lines = [line(rng.choice(["sqrt", "acos", "sin"]), text) for text in TAKEN + LIKE_DECIMALS + NOT_TAKEN]
+    floats = TAKEN + LIKE_DECIMALS
+    for place in range(0, len(floats), 7):  # between equal instants the first pose is answered as it is
+        first = (floats[place:] + floats)[:7]
+        lines.append(line("interp", *first, *7 * ["0"], 3, 3, 3))
+    for text in NOT_TAKEN:
+        pose = ["0", "0", "0", "1", "0", "0", "0"]
+        pose[rng.randrange(7)] = text
+        lines.append(line("inv", *pose))
+    about = ["1.000001", "1.0000010001", "1.00000099999999", "0.999999", "0.9999989999", "0.99999900000001"]
+    for text in ("1", "0.6", *about):
+        for sign in ("", "-"):
+            lines.append(line("add", 2, 1, 0, 0, "-0.25", "1e3", "-0", sign + text, "0", "-0", "0e5"))
+            lines.append(line("lookup", 2, 1, 0))
+    return opened(values, [5], lines)
+
+
 def pose_scene(values):
     kinds = values.rng.choices([interp, inv, mul, leaf], [4, 2, 2, 3], k=values.rng.randrange(5, 30))
     return [kind(values) for kind in kinds]
 
 
 def scenes(rng):
-    """Scenes without end; the first have every edge, every byte of a map and every odd record."""
+    """Scenes without end; the first have every edge, every bound of decimals, every byte of a map and odd record."""
     values = Values(rng)
-    yield from (edge_scene(values), byte_scene(values), odd_scene(values))
+    yield from (edge_scene(values), decimal_scene(values), byte_scene(values), odd_scene(values))
     kinds = [tree_scene, flow_scene, pose_scene, big_scene, long_scene, map_scene, big_map_scene]
     while True:
         yield rng.choices(kinds, [45, 25, 50, 1, 1, 9, 0.5])[0](values)

@@ -1,9 +1,11 @@
 """Seeded values for scripts: floats, poses, instants, ages and frames, plain, wild and at the edges.
 
-Floats are the protocol's words (16 hexadecimal digits), so that a NaN keeps its bits.
+Floats are the 16 hexadecimal digits of their bits, so that a NaN keeps them; some become decimals in a line.
 """
 import math
 import struct
+
+from decimals import MOST, near
 
 LAST = 2**64 - 1
 SECOND = 10**9
@@ -81,8 +83,10 @@ class Values:
         return [c / n for c in q] if any(q) else [1.0, 0.0, 0.0, 0.0]
 
     def turn(self):
-        """A turn about an axis: none, a quarter, a half, or the same the other way round."""
+        """A turn about an axis: none, a quarter, a half, a third, or the same the other way round."""
         rng = self.rng
+        if rng.random() < 0.2:
+            return [rng.choice([0.5, -0.5]) for _ in range(4)]
         q = [0.0, 0.0, 0.0, 0.0]
         half = math.sqrt(0.5)
         a, b = rng.sample(range(4), 2)
@@ -144,6 +148,13 @@ class Values:
         rng = self.rng
         factor = rng.choice([0.0, 0.5, 2.0, 1 + 1.1e-6, 1 - 1.1e-6, 1e200, 1e-200])
         return words(self.translation() + [c * factor for c in self.rotation()])
+
+    def said(self, pose):
+        """A pose as a line has it: a fifth of all floats are decimals, and some of those in translations are short."""
+        rng = self.rng
+        share = rng.choice([0, 0, 0, 0, 0, 0, 0.3, 0.3, 0.4, 1])
+        most = [rng.choice([2, 3, 6, MOST]) for _ in range(3)] + 4 * [MOST]
+        return [near(rng, word, m) if rng.random() < share else word for word, m in zip(pose, most)]
 
     # Instants, ages, frames
 

@@ -1,22 +1,26 @@
 -- A frame and a float from the number that a word's digits are. Assumes nothing.
 use mathlib.Core.Path.{_≡_, refl, sym, ap, _∙_}
 use mathlib.Core.Bool.{Bool, true, false, cond}
-use mathlib.Core.Option.{Option, none, some, Option·map, Option·some-injective, Option·none-ne-some, Option·some-ne-none}
+use mathlib.Core.Option.{Option, none, some, Option·map, Option·some-injective, Option·none-ne-some, Option·some-ne-none, orElse}
 use mathlib.Core.List.{List, [], _∷_}
 use Prim.Native.Nat.{ℕ, _+_, _-_, _^_, _≤_, _<_}
-use native.Mathlib.Omega.{arith}
 use borrow.Author.Tests.{lt-ltb, le-ltb, eq-eqb, ne-eqb}
 use lib.Dec.{eqb}
 use lib.ListN.{length}
 use lib.Ieee.{Float, binary64, ofBits}
 use Rattle.text.specs.Digits.{below, numberIn}
+use Rattle.text.specs.Decimal.{decimal}
 use Rattle.text.specs.Reading.{wordAt, goingOn, notEmpty, readAt, number, frame, float}
 
-given : {A : Type 0} {a : A} {next : ℕ} (o : Option A) (n : ℕ) → some (a, next) ≡ goingOn o n → (o ≡ some a) × (next ≡ n)
+pub given : {A : Type 0} {a : A} {next : ℕ} (o : Option A) (n : ℕ) → some (a, next) ≡ goingOn o n → (o ≡ some a) × (next ≡ n)
 given {A} none n e = absurd (Option·some-ne-none _ e)
 given {A} (some b) n e =
     let q = Option·some-injective _ _ e in
     (ap (λ (p : A × ℕ). some (p .0)) (sym q), ap (λ (p : A × ℕ). p .1) q)
+
+pub none-from : {A : Type 0} (o : Option A) (n : ℕ) → none ≡ goingOn o n → o ≡ none
+none-from none n e = refl
+none-from (some b) n e = absurd (Option·none-ne-some _ e)
 
 -- two forms read at one place
 module _ {A B : Type 0} (f : List ℕ → Option A) (g : List ℕ → Option B) (l : List ℕ) (at : ℕ) where
@@ -32,10 +36,6 @@ module _ {A B : Type 0} (f : List ℕ → Option A) (g : List ℕ → Option B) 
   unfolding readAt
   also-refused h = go (wordAt l at)
     where
-      none-from : (o : Option A) (n : ℕ) → none ≡ goingOn o n → o ≡ none
-      none-from none n e = refl
-      none-from (some b) n e = absurd (Option·none-ne-some _ e)
-
       go : (w : List ℕ) → none ≡ goingOn (notEmpty f w) (at + length w + 1) → none ≡ goingOn (notEmpty g w) (at + length w + 1)
       go [] e = refl
       go (c ∷ w) e = ap (λ (o : Option B). goingOn o (at + length (c ∷ w) + 1)) (sym (h (c ∷ w) (none-from (f (c ∷ w)) (at + length (c ∷ w) + 1) e)))
@@ -50,27 +50,23 @@ module _ (l : List ℕ) (at n next : ℕ) (e : some (n, next) ≡ readAt number 
 pub frame-none : (l : List ℕ) (at : ℕ) → none ≡ readAt number l at → none ≡ readAt frame l at
 frame-none l at = also-refused number frame l at (λ w h. ap (below (2 ^ 32)) h)
 
-module _ (l : List ℕ) (at bits next : ℕ) (e : some (bits, next) ≡ readAt (numberIn 16) l at) where
-  pub next-behind : next ≡ at + length (wordAt l at) + 1
-  next-behind = also-read (numberIn 16) float l at e .1
+-- a word that is read as bits, and one that is not
+module _ (w : List ℕ) (next : ℕ) where
+  pub float-decimal : (length w ≡ 16 → ⊥) → goingOn (decimal w) next ≡ goingOn (float w) next
+  unfolding orElse
+  float-decimal h = simp (ne-eqb (length w) 16 h)
 
-  pub float-value : next - at ≡ 17 → some (ofBits binary64 bits, next) ≡ readAt float l at
-  float-value h =
-      let r = also-read (numberIn 16) float l at e in
-      sym (r .2 ∙ ap (λ (o : Option ℕ). goingOn (cond (eqb (length (wordAt l at)) 16) (Option·map (ofBits binary64) o) none) next) (r .0)
-      ∙ simp (eq-eqb (length (wordAt l at)) 16 (omega (arith, r .1))))
+  pub float-bits : {b n : ℕ} → length w ≡ 16 → some (b, n) ≡ goingOn (numberIn 16 w) next → some (ofBits binary64 b, n) ≡ goingOn (float w) next
+  unfolding orElse
+  float-bits {b} {n} h e =
+      let g = given (numberIn 16 w) next e in
+      sym (ap (λ (o : Option ℕ). goingOn (orElse (cond (eqb (length w) 16) (Option·map (ofBits binary64) o) none) (decimal w)) next) (g .0)
+      ∙ simp (eq-eqb (length w) 16 h) (ap (λ (k : ℕ). some (ofBits binary64 b, k)) (sym (g .1))))
 
-  pub float-width : (next - at ≡ 17 → ⊥) → none ≡ readAt float l at
-  float-width h =
-      let r = also-read (numberIn 16) float l at e in
-      sym (r .2 ∙ simp (ne-eqb (length (wordAt l at)) 16 (λ z. h (omega (arith, r .1)))))
-
-pub float-none : (l : List ℕ) (at : ℕ) → none ≡ readAt (numberIn 16) l at → none ≡ readAt float l at
-float-none l at = also-refused (numberIn 16) float l at no-bits
-  where
-    no-bits : (w : List ℕ) → numberIn 16 w ≡ none → float w ≡ none
-    no-bits w h = ap (λ (o : Option ℕ). cond (eqb (length w) 16) (Option·map (ofBits binary64) o) none) h ∙ either (eqb (length w) 16)
-      where
-        either : (b : Bool) → _≡_ {A = Option Float} (cond b none none) none
-        either true = refl
-        either false = refl
+  pub float-no-bits : none ≡ goingOn (numberIn 16 w) next → goingOn (decimal w) next ≡ goingOn (float w) next
+  unfolding orElse
+  float-no-bits e = sym (ap (λ (o : Option ℕ). goingOn (orElse (cond (eqb (length w) 16) (Option·map (ofBits binary64) o) none) (decimal w)) next) (none-from (numberIn 16 w) next e) ∙ either (eqb (length w) 16))
+    where
+      either : (b : Bool) → goingOn (orElse {A = Float} (cond b none none) (decimal w)) next ≡ goingOn (decimal w) next
+      either true = refl
+      either false = refl

@@ -1,8 +1,14 @@
 pub mod Bytes
 pub mod DigitCharacters
+pub mod Before
 pub mod Words
 pub mod Forms
 pub mod Numbers
+pub mod Exact
+pub mod Scaled
+pub mod Parts
+pub mod RoundNearest
+pub mod DecimalNearest
 pub mod Equal
 pub mod DigitCounts
 pub mod Stores

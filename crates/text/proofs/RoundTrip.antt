@@ -1,7 +1,7 @@
 -- Reading what writing wrote gives the value back. Assumes nothing.
 use mathlib.Core.Path.{_≡_, refl, sym, ap, _∙_, subst}
 use mathlib.Core.Bool.{Bool, true, false, cond}
-use mathlib.Core.Option.{Option, none, some, Option·getD, Option·none-ne-some}
+use mathlib.Core.Option.{Option, none, some, Option·getD, Option·none-ne-some, orElse}
 use mathlib.Core.List.{List, [], _∷_, _++_, append-assoc, append-nil}
 use Prim.Native.Nat.{ℕ, zero, suc, _+_, _*_, _/_, _%_, _^_, _≤_, _<_}
 use native.Mathlib.Nat.{mod-lt, div-add-mod', pow-zero, pow-suc, div-lt-iff-lt-mul}
@@ -85,6 +85,7 @@ pub frameBack : FrameBack
 frameBack n h = digits-read frame n 10 (digitCount 19 n) n (digitCount-some 19 n) (ap (below (2 ^ 32)) (number-text n (omega arith)) ∙ simp (lt-ltb n (2 ^ 32) h))
 
 float-text : (x : Float) → T (fits binary64 x) → float (digits 16 16 (toBits binary64 x)) ≡ some x
+unfolding orElse
 float-text x f =
     let b = toBits binary64 x in
     let h : b < 2 ^ 64 = toBits-lt binary64 x f in
@@ -94,7 +95,7 @@ pub floatBack : FloatBack
 floatBack x f h = rw h (digits-read float x 16 16 (toBits binary64 x) (omega arith) (float-text x f))
 
 pub nanNotRead : NanNotRead
-unfolding isNan
+unfolding isNan orElse
 nanNotRead = refl
 
 pub writtenBack : WrittenBack

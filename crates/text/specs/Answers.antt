@@ -16,6 +16,8 @@ use Rattle.text.specs.declared.read.Byte.{Byte}
 use Rattle.text.specs.declared.read.Byte.the-variants as byte
 use Rattle.text.specs.declared.read.Keyword.{Keyword}
 use Rattle.text.specs.declared.read.Keyword.the-variants as keyword
+use Rattle.text.specs.declared.decimal.Exponent.{Exponent}
+use Rattle.text.specs.declared.decimal.Exponent.the-variants as exponent
 
 -- the word that starts at a place of a line and ends before `end`
 abbrev pub wordRead : List ℕ → ℕ → Word → Option (List ℕ × ℕ)
@@ -44,3 +46,9 @@ keywordRead keyword.Other = none
 abbrev pub byteRead : Byte → Option ℕ
 byteRead (byte.Value b) = some b
 byteRead byte.Malformed = none
+
+-- an exponent of a decimal, above zero or below; no public contract rests on it
+abbrev pub exponentRead : Exponent → Option (ℕ × ℕ)
+exponentRead (exponent.Up n) = some (n, 0)
+exponentRead (exponent.Down n) = some (0, n)
+exponentRead exponent.Malformed = none

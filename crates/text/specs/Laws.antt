@@ -1,12 +1,14 @@
--- What holds of reading and writing together. Proved in proofs/RoundTrip.antt.
-use Prim.Native.Nat.{ℕ, _+_, _^_, _≤_, _<_}
+-- What holds of reading and writing together, proved in proofs/RoundTrip.antt, and of decimals, proved in proofs/DecimalNearest.antt.
+use Prim.Native.Nat.{ℕ, _+_, _-_, _*_, _^_, _≤_, _<_}
 use mathlib.Core.Path.{_≡_}
-use mathlib.Core.Bool.{false}
+use mathlib.Core.Bool.{Bool, false}
 use mathlib.Core.Option.{Option, none, some}
 use mathlib.Core.List.{List, [], _++_}
 use lib.Dec.{T}
 use lib.ListN.{length, take, getD}
 use lib.Ieee.{Float, nan, binary64, fits, isNan}
+use lib.Ieee.Exact.{HasValue}
+use Rattle.text.specs.Decimal.{rounded}
 use Rattle.text.specs.Reading.{upToSpace, readAt, number, frame, float, byte}
 use Rattle.text.specs.Writing.{numberText, floatText, byteText, written}
 
@@ -44,3 +46,18 @@ WrittenBack = (A : Type 0) (form : List ℕ → Option A) (a : A) (text : List �
 -- the text of a number above 0 begins with no `0` (48)
 abbrev pub NoZeroInFront : Type 0
 NoZeroInFront = (n : ℕ) → 0 < n → n < 2 ^ 64 → getD (numberText n) 0 0 ≡ 48 → ⊥
+
+-- a float is n * 2^-1074 in size, exactly, with the sign
+abbrev pub Units : Float → Bool → ℕ → Type 0
+Units x negative n = HasValue x negative n (2 ^ 1074)
+
+-- No f64 is nearer to num / den than r units of the same sign: the fraction is not on the far side of the middle of r and any other v. What has
+-- the other sign is farther away than zero.
+abbrev pub Nearest : Bool → ℕ → ℕ → ℕ → Type 0
+Nearest negative num den r = (y : Float) (v : ℕ) → T (fits binary64 y) → Units y negative v
+    → (v < r → (v + r) * den ≤ 2 * (num * 2 ^ 1074)) × (r < v → 2 * (num * 2 ^ 1074) ≤ (v + r) * den)
+
+-- the value of a decimal is the f64 nearest to it, for all digits and powers of ten that are read
+abbrev pub DecimalNearest : Type 0
+DecimalNearest = (negative : Bool) (d up down : ℕ) → d < 10 ^ 15 → up ≤ down + 22 → down ≤ up + 22
+    → (r : ℕ) × Units (rounded negative d up down) negative r × Nearest negative (d * 10 ^ (up - down)) (10 ^ (down - up)) r

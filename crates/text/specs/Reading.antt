@@ -1,12 +1,13 @@
 -- The words of a line, and what each form of word stands for. None: malformed.
 use Prim.Native.Nat.{ℕ, _+_, _^_}
 use mathlib.Core.Bool.{Bool, true, false, cond, _&&_}
-use mathlib.Core.Option.{Option, none, some, Option·map}
+use mathlib.Core.Option.{Option, none, some, Option·map, orElse}
 use mathlib.Core.List.{List, [], _∷_}
 use lib.Dec.{eqb}
 use lib.ListN.{length, take, drop}
 use lib.Ieee.{Float, binary64, ofBits}
 use Rattle.text.specs.Digits.{below, numberIn}
+use Rattle.text.specs.Decimal.{decimal}
 
 -- the bytes before the first space (32), or all
 abbrev pub upToSpace : List ℕ → List ℕ
@@ -39,9 +40,13 @@ number word = numberIn 10 word
 abbrev pub frame : List ℕ → Option ℕ
 frame word = below (2 ^ 32) (number word)
 
--- a float: exactly the 16 hexadecimal digits of its bits, lower case; a NaN for any NaN's bits. The word `nan` is written and not read.
+-- the value of a float's bits: exactly their 16 hexadecimal digits, lower case; a NaN for any NaN's bits
+abbrev pub bits : List ℕ → Option Float
+bits word = cond (eqb (length word) 16) (Option·map (ofBits binary64) (numberIn 16 word)) none
+
+-- a float: its bits, or any other word as a decimal. The word `nan` is written and not read.
 abbrev pub float : List ℕ → Option Float
-float word = cond (eqb (length word) 16) (Option·map (ofBits binary64) (numberIn 16 word)) none
+float word = orElse (bits word) (decimal word)
 
 -- a byte: exactly its two hexadecimal digits, lower case
 abbrev pub byte : List ℕ → Option ℕ

@@ -1,5 +1,6 @@
 // The words of the text protocol: read from a line, and written into a lent buffer. No public function has a
 // `requires`: each tests its own bounds.
+mod decimal;
 mod read;
 mod write;
 

@@ -2,14 +2,16 @@
 // behind the one space after the word, also where the line ends with the word: `ended` then holds. A place where
 // no word starts is malformed.
 ghost use mathlib.Core.Path.{_≡_};
-ghost use Prim.Native.Nat.{_+_, _<_};
+ghost use Prim.Native.Nat.{_+_, _^_, _<_};
 ghost use lib.Dec.{ltb};
-ghost use lib.ListN.{length};
-ghost use Rattle.text.specs.Digits.{numberIn};
+ghost use lib.ListN.{length, drop};
+ghost use Rattle.text.specs.Digits.{numberFrom, below, numberIn};
 ghost use Rattle.text.specs.Digits.{digit as Digits·digit};
+ghost use Rattle.text.specs.Decimal.{before};
 ghost use Rattle.text.specs.Reading.{wordAt, readAt, goingOn, anyWord, number, frame, float, keyword, byteAt};
 ghost use Rattle.text.specs.Reading.{same as Reading·same};
 ghost use Rattle.text.specs.Answers.{wordRead, numberRead, frameRead, floatRead, keywordRead, byteRead};
+use super::decimal::decimal;
 
 // The place at which a word ends; the text goes on at the place behind that.
 pub enum Word {
@@ -65,13 +67,13 @@ fn digit(b: u8) -> u64
     }
 }
 
-// The number that a word's digits are, with the next place.
-fn digits(word: &[u8], base: u64, next: usize) -> Number
+// The number that a word's digits are where they follow a number, with the next place.
+pub(crate) fn digits(word: &[u8], base: u64, number: u64, next: usize) -> Number
     requires { ⌜ 0 < base ⌝ }
-    ensures { λ r. ⌜ numberRead r ≡ goingOn (numberIn base (now (word .entry))) next ⌝ }
+    ensures { λ r. ⌜ numberRead r ≡ goingOn (below (2 ^ 64) (numberFrom base number (now (word .entry)))) next ⌝ }
 {
     let most = u64::MAX / base;
-    let mut value = 0u64;
+    let mut value = number;
     let mut i = 0;
     while i < word.len() {
         let d = digit(word[i]);
@@ -108,18 +110,25 @@ pub fn same(a: &[u8], b: &[u8]) -> bool
     true
 }
 
-// The place of the first space from `at` on, or the line's end.
-fn word_end(line: &[u8], at: usize) -> usize
-    ensures { λ r. ⌜ r ≡ at + length (wordAt (now (line .entry)) at) ⌝ }
+// The place of the first byte b from `at` on, or the line's end.
+pub(crate) fn first(line: &[u8], at: usize, b: u8) -> usize
+    ensures { λ r. ⌜ r ≡ at + length (before b (drop at (now (line .entry)))) ⌝ }
 {
     let mut i = at;
     while i < line.len() {
-        if line[i] == b' ' {
+        if line[i] == b {
             return i;
         }
         i += 1;
     }
     i
+}
+
+// The place of the first space from `at` on, or the line's end.
+fn word_end(line: &[u8], at: usize) -> usize
+    ensures { λ r. ⌜ r ≡ at + length (wordAt (now (line .entry)) at) ⌝ }
+{
+    first(line, at, b' ')
 }
 
 // A word of digits.
@@ -131,7 +140,7 @@ fn read_digits(line: &[u8], at: usize, base: u64) -> Number
     if end == at {
         return Number::Malformed;
     }
-    digits(&line[at..end], base, end + 1)
+    digits(&line[at..end], base, 0, end + 1)
 }
 
 // Whether the word before the place was the line's last.
@@ -172,20 +181,27 @@ pub fn read_frame(line: &[u8], at: usize) -> Frame
     }
 }
 
-// The 16 hexadecimal digits of a float's bits, lower case.
+// The 16 hexadecimal digits of a float's bits, lower case, or a decimal.
+fn float_word(word: &[u8], next: usize) -> Float
+    ensures { λ r. ⌜ floatRead r ≡ goingOn (float (now (word .entry))) next ⌝ }
+{
+    if word.len() != 16 {
+        return decimal(word, next);
+    }
+    match digits(word, 16, 0, next) {
+        Number::Value(bits, next) => Float::Value(libm::float::from_bits(bits), next),
+        Number::Malformed => decimal(word, next),
+    }
+}
+
 pub fn read_float(line: &[u8], at: usize) -> Float
     ensures { λ r. ⌜ floatRead r ≡ readAt float (now (line .entry)) at ⌝ }
 {
-    match read_digits(line, at, 16) {
-        Number::Value(bits, next) => {
-            // the digits and the space behind them
-            if next - at != 17 {
-                return Float::Malformed;
-            }
-            Float::Value(libm::float::from_bits(bits), next)
-        }
-        Number::Malformed => Float::Malformed,
+    let end = word_end(line, at);
+    if end == at {
+        return Float::Malformed;
     }
+    float_word(&line[at..end], end + 1)
 }
 
 pub fn read_keyword(line: &[u8], at: usize, expected: &[u8]) -> Keyword

@@ -1,10 +1,14 @@
 //! The protocol's words: numbers, floats, poses and bytes, read and written.
 use crate::geometry::{Quaternion, Vector3, transform::Isometry};
 
+/// One or more decimal digits.
+fn some_digits(word: &str) -> Option<&str> {
+    Some(word).filter(|w| !w.is_empty() && w.bytes().all(|b| b.is_ascii_digit()))
+}
+
 /// Decimal digits of a number that fits 64 bits.
 pub(crate) fn number(word: &str) -> Option<u64> {
-    let digits = !word.is_empty() && word.bytes().all(|b| b.is_ascii_digit());
-    if digits { word.parse().ok() } else { None }
+    some_digits(word)?.parse().ok()
 }
 
 pub(crate) fn frame_number(word: &str) -> Option<u32> {
@@ -21,12 +25,39 @@ fn digits(word: &str) -> bool {
     word.bytes().all(|b| matches!(b, b'0'..=b'9' | b'a'..=b'f'))
 }
 
-/// The 16 lower-case hexadecimal digits of a float's bits.
+/// 16 lower-case hexadecimal digits are a float's bits; any other word is a decimal.
 pub(crate) fn float(word: &str) -> Option<f64> {
-    if word.len() != 16 || !digits(word) {
+    if word.len() == 16 && digits(word) {
+        return u64::from_str_radix(word, 16).ok().map(f64::from_bits);
+    }
+    decimal(word)
+}
+
+/// At most 15 digits times ten to a power from -22 to 22, rounded by Rust's own reading of floats.
+fn decimal(word: &str) -> Option<f64> {
+    let unsigned = word.strip_prefix('-').unwrap_or(word);
+    let (mantissa, exponent) = match unsigned.split_once('e') {
+        Some((mantissa, exponent)) => (mantissa, whole(exponent)?),
+        None => (unsigned, 0),
+    };
+    let (before, behind) = match mantissa.split_once('.') {
+        Some((before, behind)) => (some_digits(before)?, some_digits(behind)?),
+        None => (some_digits(mantissa)?, ""),
+    };
+    let all = format!("{before}{behind}");
+    let power = exponent - behind.len() as i128;
+    if all.trim_start_matches('0').len() > 15 || !(-22..=22).contains(&power) {
         return None;
     }
-    u64::from_str_radix(word, 16).ok().map(f64::from_bits)
+    word.parse().ok()
+}
+
+/// A number, with `-` or without a sign.
+fn whole(word: &str) -> Option<i128> {
+    match word.strip_prefix('-') {
+        Some(unsigned) => Some(-i128::from(number(unsigned)?)),
+        None => Some(number(word)?.into()),
+    }
 }
 
 /// 1 to 240 bytes, two lower-case hexadecimal digits each.

@@ -12,11 +12,11 @@ use Rattle.text.proofs.read.digits.Statement.{statement}
 use Rattle.text.proofs.read.digits.Tie as tie
 
 abbrev Inv-loop : tie.InvT-loop
-Inv-loop word base next most value₀ i₀ value i =
-    (numberFrom base 0 word ≡ numberFrom base value (drop i word)) × (value < 2 ^ 64) × (most ≡ 18446744073709551615 / base)
+Inv-loop word base number next most value₀ i₀ value i =
+    (numberFrom base number word ≡ numberFrom base value (drop i word)) × (value < 2 ^ 64) × (most ≡ 18446744073709551615 / base)
 
 abbrev μ-loop : tie.MeasureT-loop
-μ-loop word base next most value₀ i₀ value i = length word - i
+μ-loop word base number next most value₀ i₀ value i = length word - i
 
 div-most : tie.Need-div-most Inv-loop μ-loop
 div-most c = search needs
@@ -40,7 +40,7 @@ returns c =
 
 -- a number that 64 bits do not hold
 over : (c : tie.In-loop Inv-loop μ-loop) → 2 ^ 64 ≤ c .before .loop .value * c .before .before .before .args .base + digit (getD (c .before .before .before .args .word .now) (c .before .loop .i) 0)
-    → none ≡ goingOn (below (2 ^ 64) (numberFrom (c .before .before .before .args .base) 0 (c .before .before .before .args .word .now))) (c .before .before .before .args .next)
+    → none ≡ goingOn (below (2 ^ 64) (numberFrom (c .before .before .before .args .base) (c .before .before .before .args .number) (c .before .before .before .args .word .now))) (c .before .before .before .args .next)
 over c h =
     let p = c .before in
     let a = p .before .before .args in
