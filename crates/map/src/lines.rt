@@ -6,18 +6,5 @@ pub(crate) const LINE_BYTES: usize = 1024;
 // Ends the line and prints it.
 pub(crate) fn print(out: &mut [u8], at: usize) {
     let end = text::write_bytes(out, at, b"\n");
-    if end <= out.len() {
-        io::write_all(libc::STDOUT_FILENO, &out[0..end]);
-    }
-}
-
-// Two spaces a level.
-pub(crate) fn put_indent(out: &mut [u8], at: usize, level: usize) -> usize {
-    let mut to = at;
-    let mut i = 0;
-    while i < level {
-        to = text::write_bytes(out, to, b"  ");
-        i += 1;
-    }
-    to
+    console::output::flush(out, end);
 }

@@ -1,5 +1,4 @@
 // `map FILE` shows a rig maker the frames of his map file as an indented tree, or why the file is refused.
-mod figures;
 mod files;
 mod frames;
 mod lines;

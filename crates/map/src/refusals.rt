@@ -1,45 +1,12 @@
 // Why a map is refused, in words.
-use crate::figures;
 use crate::lines;
 use crate::names;
 use crate::records;
+use console::figures;
+use console::refusals;
 use map_loading::answer::Loaded;
-use registry::answer::Answer;
 use registry::answer::Carried;
 use registry::answer::Reply;
-
-// A refusal's number, and 0 for an answer that is none.
-fn number(reply: Reply) -> u32 {
-    let Reply::Refusal(number, _) = reply else {
-        return 0;
-    };
-    number
-}
-
-// What is wrong with a record that is refused.
-fn put_reason(out: &mut [u8], at: usize, refused: Answer) -> usize {
-    match refused {
-        Answer::NonFiniteValues => {
-            text::write_bytes(out, at, b"a number of its pose is not finite")
-        }
-        Answer::NonUnitRotation(_) => {
-            text::write_bytes(out, at, b"the norm of its rotation is not 1")
-        }
-        Answer::SelfReferentialFrame => text::write_bytes(out, at, b"the child is its own parent"),
-        Answer::ReparentingNotSupported(_) => {
-            text::write_bytes(out, at, b"the child has another parent")
-        }
-        Answer::CycleDetected => text::write_bytes(
-            out,
-            at,
-            b"the parent stands below the child, which makes a circle",
-        ),
-        Answer::TreeFull => {
-            text::write_bytes(out, at, b"256 frames have a parent, and no more can")
-        }
-        _ => text::write_bytes(out, at, b"it cannot be added"),
-    }
-}
 
 // What the refusal carries: a norm, or the parent that the child has.
 fn put_carried(out: &mut [u8], at: usize, map: &[u8], reply: Reply) -> usize {
@@ -60,13 +27,11 @@ fn put_carried(out: &mut [u8], at: usize, map: &[u8], reply: Reply) -> usize {
 }
 
 // The first line: the record, and what is wrong with it.
-fn print_record(out: &mut [u8], n: u32, refused: Answer) {
+fn print_record(out: &mut [u8], n: u32, reply: Reply) {
     let second = text::write_bytes(out, 0, b"record ");
     let third = text::write_number(out, second, n as u64);
-    let fourth = text::write_bytes(out, third, b", counted from 0, is refused with ");
-    let fifth = text::write_number(out, fourth, number(Reply::of_tree(refused)) as u64);
-    let sixth = text::write_bytes(out, fifth, b": ");
-    let end = put_reason(out, sixth, refused);
+    let fourth = text::write_bytes(out, third, b", counted from 0, is ");
+    let end = refusals::put_number(out, fourth, refusals::number(reply));
     lines::print(out, end);
 }
 
@@ -81,23 +46,24 @@ fn print_names(out: &mut [u8], map: &[u8], n: u32, reply: Reply) {
     lines::print(out, end);
 }
 
+// What the form of a file can be refused for.
+fn put_form(out: &mut [u8], at: usize, loaded: Loaded) -> usize {
+    let Loaded::MapForm = loaded else {
+        return at;
+    };
+    text::write_bytes(
+        out,
+        at,
+        b": wrong mark, version or length byte, cut short, or bytes left over",
+    )
+}
+
 // A file that is refused as a whole.
 fn print_whole(out: &mut [u8], loaded: Loaded) {
-    let number = number(Reply::of_tree(loaded.answer()));
-    let Loaded::MapForm = loaded else {
-        let second = text::write_bytes(out, 0, b"the map is refused with ");
-        let end = text::write_number(out, second, number as u64);
-        lines::print(out, end);
-        return;
-    };
-    let second = text::write_bytes(
-        out,
-        0,
-        b"this is no map file, or it is damaged: wrong mark, version or length byte, cut short, or bytes left over",
-    );
-    let third = text::write_bytes(out, second, b" (refusal ");
-    let fourth = text::write_number(out, third, number as u64);
-    let end = text::write_bytes(out, fourth, b")");
+    let reply = Reply::of_tree(loaded.answer());
+    let second = text::write_bytes(out, 0, b"the map is ");
+    let third = refusals::put_number(out, second, refusals::number(reply));
+    let end = put_form(out, third, loaded);
     lines::print(out, end);
 }
 
@@ -109,6 +75,6 @@ pub(crate) fn print(map: &[u8], loaded: Loaded) {
         print_whole(out, loaded);
         return;
     };
-    print_record(out, n, refused);
+    print_record(out, n, Reply::of_tree(refused));
     print_names(out, map, n, Reply::of_tree(refused));
 }

@@ -1,12 +1,11 @@
 // The frames of a map that is loaded, printed as a tree: each frame below its parent, two spaces further in, and the
 // children of a frame in the order of their numbers.
-use crate::figures;
 use crate::frames;
 use crate::frames::MOST_FRAMES;
 use crate::frames::NO_FRAME;
 use crate::lines;
 use crate::names;
-use geometry::vector3::Vector3;
+use console::figures;
 use map_file::form;
 use map_file::form::Form;
 use registry::answer::Answer;
@@ -43,14 +42,6 @@ fn next(parents: &[u32], walk: Walk, found: usize) -> Walk {
     }
 }
 
-fn put_translation(out: &mut [u8], at: usize, t: Vector3) -> usize {
-    let second = figures::put_figure(out, at, t.x);
-    let third = text::write_bytes(out, second, b" ");
-    let fourth = figures::put_figure(out, third, t.y);
-    let fifth = text::write_bytes(out, fourth, b" ");
-    figures::put_figure(out, fifth, t.z)
-}
-
 // Where a frame is mounted on its parent, unless it has none.
 fn put_mounting(
     out: &mut [u8],
@@ -69,7 +60,7 @@ fn put_mounting(
         return at;
     };
     let next = text::write_bytes(out, at, b" at ");
-    put_translation(out, next, pose.translation)
+    figures::put_vector(out, next, pose.translation)
 }
 
 // Prints the frame that is found, if there is one.
@@ -86,7 +77,7 @@ fn print_found(
         return;
     }
     let frame = found as u32;
-    let second = lines::put_indent(out, 0, frames::level(parents, frame));
+    let second = console::tree::put_indent(out, 0, frames::level(parents, frame));
     let third = names::put_frame(out, second, map, frame);
     let above = frames::parent(parents, frame);
     let end = put_mounting(out, third, head, instants, poses, above, frame);

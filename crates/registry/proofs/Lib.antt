@@ -1,6 +1,7 @@
 pub mod AsMap
 pub mod Fits
 pub mod Held
+pub mod NextEdge
 pub mod Readings
 pub mod Replies
 pub mod ReplyInjective

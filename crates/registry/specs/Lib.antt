@@ -3,6 +3,7 @@ pub mod Store
 pub mod Sound
 pub mod Answers
 pub mod Path
+pub mod NextEdge
 pub mod Calls
 pub mod History
 pub mod Demand3

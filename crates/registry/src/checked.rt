@@ -5,10 +5,12 @@ use crate::answer::Answer;
 use crate::common_time::common;
 use crate::layout;
 use crate::lookup::resolve;
+use crate::paths::edges;
 use crate::paths::frames;
 use crate::paths::frames::Endpoints;
 use crate::search;
 use crate::search::Found;
+use buffer::coverage::Coverage;
 use buffer::max_age::MaxAge;
 use buffer::words;
 use geometry::isometry::Isometry;
@@ -24,6 +26,7 @@ ghost use Rattle.registry.specs.Sound.{SoundStore};
 ghost use Rattle.registry.specs.Answers.{replyOf};
 ghost use Rattle.registry.specs.Calls.{outcome, storeOf, written};
 ghost use Rattle.registry.specs.Path.{lookup, commonTime};
+ghost use Rattle.registry.specs.NextEdge.{edgeFrom, told};
 
 // Overwrites everything with a store of these sizes and this age, with no row used.
 pub fn open(
@@ -50,6 +53,36 @@ pub fn is_empty(head: &[u64], instants: &[u64], poses: &[f64]) -> bool
     ensures { λ r. ⌜ r ≡ holdsNoFrame (treeOf (storeOf (now (head .entry)) (now (instants .entry)) (now (poses .entry)))) ⌝ }
 {
     layout::used(head) == 0
+}
+
+// An edge of the tree: its child, its parent, how many samples it holds and the times at which it is
+// served. End where no child is left.
+pub enum NextEdge {
+    Edge {
+        child: u64,
+        parent: u64,
+        count: usize,
+        coverage: Coverage,
+    },
+    End,
+}
+
+// The first edge whose child is the frame or greater. Asked from 0, and then each time from one more
+// than the child read, it gives every edge once, by rising child.
+pub fn edge_from(head: &[u64], instants: &[u64], poses: &[f64], frame: u64) -> NextEdge
+    requires { ⌜ SoundStore (storeOf (now head) (now instants) (now poses)) ⌝ }
+    ensures { λ r. ⌜ r ≡ told (edgeFrom (treeOf (storeOf (now (head .entry)) (now (instants .entry)) (now (poses .entry)))) frame) ⌝ }
+{
+    let row = search::row_from(head, frame);
+    if row == layout::used(head) {
+        return NextEdge::End;
+    }
+    NextEdge::Edge {
+        child: layout::child_at(head, row),
+        parent: layout::parent_at(head, row),
+        count: layout::count_at(head, row) as usize,
+        coverage: edges::row_coverage(head, instants, row),
+    }
 }
 
 // Leaves a store of the same sizes and age with no row used.

@@ -2,7 +2,7 @@
 use crate::layout;
 ghost use Prim.Native.Nat.{_<_};
 ghost use Rattle.registry.specs.Store.{usedIn};
-ghost use Rattle.registry.specs.layout.Rows.{headOf, RisingRows, IsRow, Finds};
+ghost use Rattle.registry.specs.layout.Rows.{headOf, RisingRows, IsRow, Finds, FirstRow};
 
 // The row of the frame, or the place where its row would stand.
 pub(crate) enum Found {
@@ -65,4 +65,15 @@ pub(crate) fn find_row(head: &[u64], frame: u64) -> Found
         return Found::At(row);
     }
     search_row(head, frame)
+}
+
+// The first row whose child is the frame or greater; the number of rows used where there is none.
+pub(crate) fn row_from(head: &[u64], frame: u64) -> usize
+    requires { ⌜ RisingRows (now head) ⌝ }
+    ensures { λ r. ⌜ FirstRow (now (head .entry)) frame r ⌝ }
+{
+    match find_row(head, frame) {
+        Found::At(row) => row,
+        Found::Absent(place) => place,
+    }
 }

@@ -1,7 +1,6 @@
 // The lines of standard input, each answered at its end.
 use super::memory;
 use super::memory::Reply;
-use super::output;
 ghost use Prim.Native.Nat.{_≤_, _<_};
 
 // How many bytes of the line are held, whether the line is too long, what the answers came to, and whether there is
@@ -50,10 +49,10 @@ fn answered(
         return before;
     }
     let lent = before.lent;
-    let to = output::spare(out, before.at);
+    let to = console::output::spare(out, before.at);
     let n = kept(used, over, line.len());
     let reply = memory::answer(&line[0..n], head, instants, poses, map, out, to, lent);
-    let at = output::line_end(out, reply.at);
+    let at = console::output::line_end(out, reply.at);
     let left = reply.lent;
     Reply { at, lent: left }
 }
@@ -119,6 +118,30 @@ fn feed(
     now
 }
 
+// The state with the answers so far written out, or with no more to read where that fails.
+fn written(out: &[u8], st: State) -> State {
+    let reply = st.reply;
+    let lent = reply.lent;
+    let at = console::output::flush(out, reply.at);
+    State {
+        used: st.used,
+        over: st.over,
+        reply: Reply { at, lent },
+        more: !console::output::failed(out, at),
+    }
+}
+
+// The state where reading failed: what is held of a line is not the whole line, and goes.
+fn cut_off(st: State) -> State {
+    let reply = st.reply;
+    State {
+        used: 0,
+        over: false,
+        reply,
+        more: false,
+    }
+}
+
 // There is more to read where something came.
 fn going_on(st: State, n: usize) -> State {
     let reply = st.reply;
@@ -130,7 +153,7 @@ fn going_on(st: State, n: usize) -> State {
     }
 }
 
-// Reads once and takes what came.
+// Writes out what has been answered, then waits for input once and takes what came.
 fn turn(
     line: &mut [u8],
     head: &mut [u64],
@@ -140,9 +163,16 @@ fn turn(
     out: &mut [u8],
     st: State,
 ) -> State {
+    let before = written(out, st);
+    if !before.more {
+        return before;
+    }
     let mut chunk = io::large_buffer();
-    let n = io::count(libc::read(0, &mut chunk), &chunk);
-    let next = feed(&chunk[..n], line, head, instants, poses, map, out, st);
+    let n = console::input::read(&mut chunk);
+    if chunk.len() < n {
+        return cut_off(before);
+    }
+    let next = feed(&chunk[0..n], line, head, instants, poses, map, out, before);
     going_on(next, n)
 }
 
@@ -199,5 +229,5 @@ pub(crate) fn run(
         out,
         before,
     );
-    output::flush(out, reply.at);
+    console::output::flush(out, reply.at);
 }

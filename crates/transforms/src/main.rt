@@ -4,6 +4,7 @@ mod maps;
 mod memory;
 mod operands;
 mod output;
+mod people;
 mod poses;
 mod store;
 

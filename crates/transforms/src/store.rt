@@ -6,6 +6,7 @@ use super::operands::Frames;
 use super::operands::Query;
 use super::operands::Wipe;
 use super::output;
+use super::people;
 use text::Float;
 use text::Number;
 
@@ -110,7 +111,7 @@ fn all_words(name: &[u8], words: &[u64], out: &mut [u8], at: usize) -> usize {
     let mut to = text::write_bytes(out, at, name);
     let mut i = 0;
     while i < words.len() {
-        let free = output::spare(out, to);
+        let free = console::output::spare(out, to);
         to = answers::write_number_word(out, free, words[i]);
         i += 1;
     }
@@ -122,7 +123,7 @@ fn all_floats(name: &[u8], floats: &[f64], out: &mut [u8], at: usize) -> usize {
     let mut to = text::write_bytes(out, at, name);
     let mut i = 0;
     while i < floats.len() {
-        let free = output::spare(out, to);
+        let free = console::output::spare(out, to);
         to = answers::write_float_word(out, free, floats[i]);
         i += 1;
     }
@@ -143,9 +144,9 @@ fn words(
         return output::malformed(out, to);
     }
     let first = all_words(b"head", head, out, to);
-    let second = output::line_end(out, first);
+    let second = console::output::line_end(out, first);
     let third = all_words(b"instants", instants, out, second);
-    let fourth = output::line_end(out, third);
+    let fourth = console::output::line_end(out, third);
     all_floats(b"poses", poses, out, fourth)
 }
 
@@ -213,6 +214,35 @@ fn answer_words(
     maps::answer(line, map, out, to)
 }
 
+// The answer to a line that asks for lines for people, or for words, or for none.
+fn answer_people(
+    line: &[u8],
+    head: &[u64],
+    instants: &[u64],
+    poses: &[f64],
+    map: &[u8],
+    out: &mut [u8],
+    to: usize,
+) -> usize {
+    let shown = operands::behind(line, 0, b"show");
+    if shown > 0 {
+        return people::show(line, shown, head, instants, poses, out, to);
+    }
+    let path = operands::behind(line, 0, b"why");
+    if path > 0 {
+        return people::why(line, path, head, instants, poses, out, to);
+    }
+    let picture = operands::behind(line, 0, b"tree");
+    if picture > 0 {
+        return people::tree(line, picture, head, instants, poses, out, to);
+    }
+    let graph = operands::behind(line, 0, b"dot");
+    if graph > 0 {
+        return people::dot(line, graph, head, instants, poses, out, to);
+    }
+    answer_words(line, head, instants, poses, map, out, to)
+}
+
 // The answer to a line that changes nothing.
 fn answer_query(
     line: &[u8],
@@ -231,7 +261,7 @@ fn answer_query(
     if frames > 0 {
         return common(line, frames, head, instants, poses, out, to);
     }
-    answer_words(line, head, instants, poses, map, out, to)
+    answer_people(line, head, instants, poses, map, out, to)
 }
 
 // The answer to a line that changes no sample by the registry.

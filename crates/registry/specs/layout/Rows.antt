@@ -75,6 +75,12 @@ abbrev pub Finds : List ℕ → ℕ → Found → Type 0
 Finds h frame (At r) = IsRow h frame r
 Finds h frame (Absent k) = AbsentAt h frame k
 
+-- the children of the first k rows are below the frame; that of row k, if it is used, is not
+pub record FirstRow (h : List ℕ) (frame k : ℕ) : Type 0 where
+  pub used : k ≤ usedIn (headOf h)
+  pub below : (j : ℕ) → j < k → childAt h j < frame
+  pub from : k < usedIn (headOf h) → frame ≤ childAt h k
+
 -- ---- rows with samples
 
 -- row r lies within the head and the instants, and its held instants rise

@@ -77,7 +77,7 @@ pub(crate) enum HopCoverage {
 }
 
 // The times of the edge that row r holds.
-fn row_coverage(head: &[u64], instants: &[u64], r: usize) -> Coverage
+pub(crate) fn row_coverage(head: &[u64], instants: &[u64], r: usize) -> Coverage
     requires { ⌜ HeldInstants (storeOf (now head) (now instants) []) r ⌝ }
     ensures { λ c. ⌜ ((poses : List Float) → (let e = edgeAt (storeOf (now (head .entry)) (now (instants .entry)) poses) r in c ≡ coverage (e .kind) (e .samples))) ⌝ }
 {
