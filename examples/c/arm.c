@@ -9,12 +9,17 @@ enum { BASE, SHOULDER, ELBOW, WRIST };
 
 /* The store: a row for each frame that has a parent, and 16 samples a row. */
 enum { ROWS = 3, SAMPLES = 16 };
-static uint64_t head[5 + 4 * ROWS];
-static uint64_t instants[ROWS * SAMPLES];
-static double poses[7 * ROWS * SAMPLES];
+enum {
+    HEAD_LEN = TRANSFORMS_HEAD_LEN(ROWS),
+    INSTANTS_LEN = TRANSFORMS_INSTANTS_LEN(ROWS, SAMPLES),
+    POSES_LEN = TRANSFORMS_POSES_LEN(ROWS, SAMPLES)
+};
+static uint64_t head[HEAD_LEN];
+static uint64_t instants[INSTANTS_LEN];
+static double poses[POSES_LEN];
 
 /* The three slices as arguments. */
-#define STORE head, 5 + 4 * ROWS, instants, ROWS * SAMPLES, poses, 7 * ROWS * SAMPLES
+#define STORE head, HEAD_LEN, instants, INSTANTS_LEN, poses, POSES_LEN
 
 #define MS UINT64_C(1000000)
 
@@ -22,13 +27,23 @@ static const transforms_quaternion NO_TURN = {1, 0, 0, 0};
 static const transforms_quaternion QUARTER_TURN = {0.7071067811865476, 0, 0, 0.7071067811865476};
 static const transforms_quaternion HALF_TURN = {0, 0, 0, 1};
 
+/* The number and the words of a refusal, and the samples that there are. */
+static void print_refusal(transforms_answer a)
+{
+    printf("refused with %" PRIu32 ": %s", a.number, transforms_refusal_words(a.number));
+    if (a.has_range) {
+        printf("; frame %" PRIu32 " has samples from %" PRIu64 " to %" PRIu64 " ns", a.frame, a.start, a.end);
+    }
+    puts("");
+}
+
 /* A sample of the child's pose seen from its parent. Answers whether it was refused. */
 static int sample(uint32_t child, uint64_t instant, double x, double y, double z, transforms_quaternion rotation)
 {
     transforms_isometry pose = {{x, y, z}, rotation};
     transforms_answer added = transforms_add_transform(STORE, child, child - 1, 0, instant, pose);
     if (added.number != TRANSFORMS_DONE) {
-        printf("frame %" PRIu32 ": refused with %" PRIu32 "\n", child, added.number);
+        print_refusal(added);
     }
     return added.number != TRANSFORMS_DONE;
 }
@@ -50,11 +65,8 @@ static void look_up(uint64_t instant)
 {
     transforms_answer a = transforms_get_transform(STORE, BASE, WRIST, instant);
     printf("at %" PRIu64 " ms: ", instant / MS);
-    if (a.number == TRANSFORMS_NOT_FOUND_AT && a.has_range) {
-        printf("refused with %" PRIu32 ", frame %" PRIu32 " has samples from %" PRIu64 " to %" PRIu64 " ms\n",
-               a.number, a.frame, a.start / MS, a.end / MS);
-    } else if (a.number != TRANSFORMS_DONE) {
-        printf("refused with %" PRIu32 "\n", a.number);
+    if (a.number != TRANSFORMS_DONE) {
+        print_refusal(a);
     } else {
         transforms_vector3 t = a.pose.translation;
         transforms_quaternion r = a.pose.rotation;
@@ -70,6 +82,7 @@ int main(void)
     look_up(20 * MS);
     transforms_answer common = transforms_latest_common_time(STORE, BASE, WRIST);
     if (common.number != TRANSFORMS_DONE) {
+        print_refusal(common);
         return 1;
     }
     printf("latest common time: %" PRIu64 " ms\n", common.instant / MS);

@@ -7,12 +7,17 @@
 
 /* The store: as many rows as there can be, and one sample a row, since a map's frames do not move. */
 enum { ROWS = 256, SAMPLES = 1 };
-static uint64_t head[5 + 4 * ROWS];
-static uint64_t instants[ROWS * SAMPLES];
-static double poses[7 * ROWS * SAMPLES];
+enum {
+    HEAD_LEN = TRANSFORMS_HEAD_LEN(ROWS),
+    INSTANTS_LEN = TRANSFORMS_INSTANTS_LEN(ROWS, SAMPLES),
+    POSES_LEN = TRANSFORMS_POSES_LEN(ROWS, SAMPLES)
+};
+static uint64_t head[HEAD_LEN];
+static uint64_t instants[INSTANTS_LEN];
+static double poses[POSES_LEN];
 
 /* The three slices as arguments. */
-#define STORE head, 5 + 4 * ROWS, instants, ROWS * SAMPLES, poses, 7 * ROWS * SAMPLES
+#define STORE head, HEAD_LEN, instants, INSTANTS_LEN, poses, POSES_LEN
 
 static uint8_t map[1 << 20];
 
@@ -46,15 +51,15 @@ static void print_name(size_t count, uint32_t frame)
     printf("%.*s", (int)a.count, (const char *)map + a.start);
 }
 
-/* A record's refusal has the record's number; 6 has the parent that the child is held under. */
+/* The number and the words of a refusal. A record's has the record; 6 has the parent that the child is held under. */
 static void print_refusal(transforms_answer a)
 {
     if (a.is_record) {
         printf("record %" PRIu64 ": ", a.index);
     }
-    printf("refused with %" PRIu32, a.number);
+    printf("refused with %" PRIu32 ": %s", a.number, transforms_refusal_words(a.number));
     if (a.number == TRANSFORMS_REPARENTING_NOT_SUPPORTED) {
-        printf(", the child is under frame %" PRIu32, a.frame);
+        printf("; the child is under frame %" PRIu32, a.frame);
     }
     puts("");
 }

@@ -39,9 +39,6 @@ fn look_up(store: &Store, instant: u64) {
             "translation {:.3} {:.3} {:.3}, rotation {:.3} {:.3} {:.3} {:.3}",
             t.x, t.y, t.z, r.w, r.x, r.y, r.z
         ),
-        Err(Refusal::NotFoundAt { frame, range: Some((start, end)) }) => {
-            println!("refused with 11, frame {frame} has samples from {} to {} ms", start / MS, end / MS)
-        }
         Err(refusal) => println!("{refusal}"),
     }
 }

@@ -1,4 +1,4 @@
-//! The refusals, by name and number.
+//! The refusals, by name, by number and in words.
 use std::fmt;
 
 /// First and last instant that a frame holds, if it holds any.
@@ -30,42 +30,52 @@ pub enum Refusal {
 }
 
 impl Refusal {
-    pub fn number(&self) -> u32 {
+    /// Its number, and its words as `transforms_refusal_words` has them.
+    fn told(&self) -> (u32, &'static str) {
         match self {
-            Refusal::Sizes => 1,
-            Refusal::UnsoundStore => 2,
-            Refusal::NonFiniteValues => 3,
-            Refusal::NonUnitRotation { .. } => 4,
-            Refusal::SelfReferentialFrame => 5,
-            Refusal::ReparentingNotSupported { .. } => 6,
-            Refusal::CycleDetected => 7,
-            Refusal::StaticDynamicConflict => 8,
-            Refusal::UnknownFrame { .. } => 9,
-            Refusal::Disconnected => 10,
-            Refusal::NotFoundAt { .. } => 11,
-            Refusal::NoCommonTime { .. } => 12,
-            Refusal::NonFinite => 13,
-            Refusal::ZeroLengthNormalization => 14,
-            Refusal::DurationUnderflow => 15,
-            Refusal::TreeFull => 16,
-            Refusal::RowFull => 17,
-            Refusal::MapForm => 18,
-            Refusal::StoreInUse => 19,
-            Refusal::Other { number } => *number,
+            Refusal::Sizes => (1, "the sizes or the lengths of the slices are wrong"),
+            Refusal::UnsoundStore => (2, "the store is unsound: its words break a rule"),
+            Refusal::NonFiniteValues => (3, "a component is not finite"),
+            Refusal::NonUnitRotation { .. } => (4, "the rotation is not a unit"),
+            Refusal::SelfReferentialFrame => (5, "a frame cannot be its own parent"),
+            Refusal::ReparentingNotSupported { .. } => (6, "the child is held under another parent"),
+            Refusal::CycleDetected => (7, "the child is already above its parent: a circle"),
+            Refusal::StaticDynamicConflict => (8, "static and moving samples do not mix in one frame"),
+            Refusal::UnknownFrame { .. } => (9, "the frame is unknown"),
+            Refusal::Disconnected => (10, "no path connects the frames"),
+            Refusal::NotFoundAt { .. } => (11, "a frame on the way is not served at this instant"),
+            Refusal::NoCommonTime { .. } => (12, "the frames have no common time"),
+            Refusal::NonFinite => (13, "the norm of the rotation is not finite"),
+            Refusal::ZeroLengthNormalization => (14, "the rotation is zero"),
+            Refusal::DurationUnderflow => (15, "time runs backwards"),
+            Refusal::TreeFull => (16, "the tree is full"),
+            Refusal::RowFull => (17, "the row is full"),
+            Refusal::MapForm => (18, "this is no map file, or it is damaged"),
+            Refusal::StoreInUse => (19, "the store already holds a frame"),
+            Refusal::Other { number } => (*number, "a refusal of a newer library"),
         }
+    }
+
+    pub fn number(&self) -> u32 {
+        self.told().0
+    }
+
+    /// What it means.
+    pub fn words(&self) -> &'static str {
+        self.told().1
     }
 }
 
 impl fmt::Display for Refusal {
     fn fmt(&self, f: &mut fmt::Formatter<'_>) -> fmt::Result {
-        write!(f, "refused with {}", self.number())?;
+        write!(f, "refused with {}: {}", self.number(), self.words())?;
         match self {
-            Refusal::NonUnitRotation { norm } => write!(f, ", the norm is {norm}"),
-            Refusal::ReparentingNotSupported { parent } => write!(f, ", the child is under frame {parent}"),
-            Refusal::UnknownFrame { frame } => write!(f, ", frame {frame} is unknown"),
+            Refusal::NonUnitRotation { norm } => write!(f, "; the norm is {norm}"),
+            Refusal::ReparentingNotSupported { parent } => write!(f, "; the child is under frame {parent}"),
+            Refusal::UnknownFrame { frame } => write!(f, "; frame {frame}"),
             Refusal::NotFoundAt { frame, range } | Refusal::NoCommonTime { frame, range } => match range {
-                Some((start, end)) => write!(f, ", frame {frame} has samples from {start} to {end} ns"),
-                None => write!(f, ", frame {frame} has no sample"),
+                Some((start, end)) => write!(f, "; frame {frame} has samples from {start} to {end} ns"),
+                None => write!(f, "; frame {frame} has no sample"),
             },
             _ => Ok(()),
         }
