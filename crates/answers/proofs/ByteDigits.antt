@@ -5,8 +5,7 @@ use mathlib.Core.List.{List, map}
 use native.Mathlib.Numerals.{add-one}
 use lib.ListN.{length, getD, drop, drop-of-length-le}
 use lib.Seq.{drop-cons}
-use Rattle.text.specs.Writing.{written, byteText}
-use Rattle.answers.specs.Texts.{writtenAll}
+use Rattle.text.specs.Writing.{written, byteText, writtenAll}
 
 module _ (bytes out : List ℕ) (at i : ℕ) where
   -- one byte, then those behind it

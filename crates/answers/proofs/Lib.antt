@@ -1,4 +1,2 @@
-pub mod Behind
 pub mod ByteDigits
 pub mod NoName
-pub mod WrittenWhole

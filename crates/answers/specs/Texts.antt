@@ -9,12 +9,7 @@ use Rattle.geometry.specs.declared.quaternion.Quaternion.{Quaternion}
 use Rattle.geometry.specs.declared.isometry.Isometry.{Isometry}
 use Rattle.registry.specs.Answers.{Value}
 use Rattle.registry.specs.Answers as value
-use Rattle.text.specs.Writing.{written, numberText, floatText, byteText}
-
--- Where the texts end, and the buffer with them in it. A text without room is left out.
-unfoldable pub writtenAll : List ℕ → ℕ → List (List ℕ) → ℕ × List ℕ
-writtenAll out at [] = (at, out)
-writtenAll out at (t ∷ texts) = writtenAll (written out at t .1) (written out at t .0) texts
+use Rattle.text.specs.Writing.{numberText, floatText, byteText}
 
 -- the word `float`
 abbrev pub float : List ℕ

@@ -11,11 +11,11 @@ ghost use mathlib.Core.Path.{_≡_};
 ghost use mathlib.Core.List.{_∷_, [], map};
 ghost use mathlib.Core.Option.{some};
 ghost use Rattle.time.specs.Reply.{answer as Reply·answer, nothing};
-ghost use Rattle.text.specs.Writing.{byteText};
+ghost use Rattle.text.specs.Writing.{byteText, writtenAll};
 ghost use Rattle.registry.specs.Answers.{replyOf};
 ghost use Rattle.map_file.specs.Book.{frameIn, nameIn};
 ghost use Rattle.map_loading.specs.Loading.{recordOf, loadReply};
-ghost use Rattle.answers.specs.Texts.{writtenAll, noneWord, replyTexts, refusalTexts, loadTexts, frameTexts, nameTexts};
+ghost use Rattle.answers.specs.Texts.{noneWord, replyTexts, refusalTexts, loadTexts, frameTexts, nameTexts};
 
 fn write_answer(out: &mut [u8], at: usize, answer: Answer) -> usize
     ensures { λ r. ⌜ (r, now (out .exit)) ≡ writtenAll (now (out .entry)) at (replyTexts (replyOf answer)) ⌝ }

@@ -8,7 +8,8 @@ use registry::answer::Reply;
 ghost use mathlib.Core.Path.{_≡_};
 ghost use mathlib.Core.List.{_∷_};
 ghost use Rattle.registry.specs.Answers.{rangeOf, carriedBy, replied};
-ghost use Rattle.answers.specs.Texts.{writtenAll, float, numberWord, floatWord, translationTexts, rotationTexts, poseTexts, hopTexts, carriedTexts, refusalTexts, instantTexts, replyTexts};
+ghost use Rattle.text.specs.Writing.{writtenAll};
+ghost use Rattle.answers.specs.Texts.{float, numberWord, floatWord, translationTexts, rotationTexts, poseTexts, hopTexts, carriedTexts, refusalTexts, instantTexts, replyTexts};
 
 // A space and a number.
 pub fn write_number_word(out: &mut [u8], at: usize, n: u64) -> usize

@@ -1,211 +1,134 @@
-// The tree of a store, read once into a table of its edges, by rising child. Each function tests for itself what it
-// reads of the table.
+// The edges of a store that has been tested, one at a time, and the words for one.
 use crate::figures;
+use crate::output;
+use crate::refusals;
 use buffer::coverage::Coverage;
 use registry::answer::Answer;
-use registry::check;
+use registry::answer::Reply;
 use registry::check::Checked;
 use registry::checked;
 use registry::checked::NextEdge;
+ghost use mathlib.Core.Path.{_≡_};
+ghost use mathlib.Core.Bool.{cond};
+ghost use mathlib.Core.Option.{Option·map};
+ghost use mathlib.Core.List.{_∷_, [], _++_};
+ghost use Prim.Native.Nat.{_+_, _^_, _<_};
+ghost use lib.Dec.{eqb};
+ghost use Rattle.time.specs.Reply.{answer, _then_};
+ghost use Rattle.buffer.specs.Map.{get};
+ghost use Rattle.text.specs.Ascii.{ascii};
+ghost use Rattle.text.specs.Writing.{written, writtenAll};
+ghost use Rattle.registry.specs.Store.{treeOf};
 ghost use Rattle.registry.specs.Sound.{SoundStore};
-ghost use Rattle.registry.specs.Calls.{storeOf};
+ghost use Rattle.registry.specs.Answers.{done, replyOf};
+ghost use Rattle.registry.specs.Calls.{storeOf, checkedReply};
+ghost use Rattle.registry.specs.NextEdge.{told};
+ghost use Rattle.console.specs.Figures.{secondsTexts};
+ghost use Rattle.console.specs.Refusals.{refusalTexts};
+ghost use Rattle.console.specs.Edges.{samplesTexts, coverageTexts};
 
 // As many edges as a store can have.
 pub(crate) const MOST: usize = 256;
 
-// The words of an edge.
-const CHILD: usize = 0;
-
-const PARENT: usize = 1;
-
-const KIND: usize = 2;
-
-const COUNT: usize = 3;
-
-const START: usize = 4;
-
-const END: usize = 5;
-
-const WORDS: usize = 6;
-
-// The words of a table.
-pub(crate) const TABLE: usize = MOST * WORDS;
-
-// A word of an edge that is not there. It is no frame, for frames have 32 bits.
-pub(crate) const NONE: u64 = u64::MAX;
-
-const STATIC: u64 = 0;
-
-const MOVING: u64 = 1;
-
-// A word of edge k.
-fn word(table: &[u64], k: usize, j: usize) -> u64 {
-    if MOST <= k {
-        return NONE;
-    }
-    if WORDS <= j {
-        return NONE;
-    }
-    let i = WORDS * k + j;
-    if i < table.len() {
-        return table[i];
-    }
-    NONE
-}
-
-fn set_word(table: &mut [u64], k: usize, j: usize, value: u64) {
-    if MOST <= k {
-        return;
-    }
-    if WORDS <= j {
-        return;
-    }
-    let i = WORDS * k + j;
-    if i < table.len() {
-        table[i] = value;
+// The refusal of a store that is not sound, and done for one that is.
+pub(crate) fn refused(checked: Checked) -> Answer
+    ensures { λ r. ⌜ replyOf r ≡ (checkedReply checked then λ u. answer done) ⌝ }
+{
+    match checked {
+        Checked::Sizes => Answer::Sizes,
+        Checked::UnsoundStore => Answer::UnsoundStore,
+        Checked::Sound => Answer::Done,
     }
 }
 
-fn set_range(table: &mut [u64], k: usize, kind: u64, start: u64, end: u64) {
-    set_word(table, k, KIND, kind);
-    set_word(table, k, START, start);
-    set_word(table, k, END, end);
-}
-
-fn set_coverage(table: &mut [u64], k: usize, coverage: Coverage) {
-    match coverage {
-        Coverage::AllTime => set_range(table, k, STATIC, 0, 0),
-        Coverage::Range { start, end } => set_range(table, k, MOVING, start, end),
-        Coverage::Empty => set_range(table, k, MOVING, 0, 0),
-    }
-}
-
-// Writes edge k.
-fn set(table: &mut [u64], k: usize, child: u64, parent: u64, count: usize, coverage: Coverage) {
-    set_word(table, k, CHILD, child);
-    set_word(table, k, PARENT, parent);
-    set_word(table, k, COUNT, count as u64);
-    set_coverage(table, k, coverage);
+// That refusal on a line of its own.
+pub(crate) fn put_refused(out: &mut [u8], at: usize, checked: Checked) -> usize
+    ensures { λ r. ⌜ (r, now (out .exit)) ≡ writtenAll (now (out .entry)) at (refusalTexts (checkedReply checked then λ u. answer done) ++ (ascii "\n" ∷ [])) ⌝ }
+{
+    let end = refusals::put_refusal(out, at, Reply::of_tree(refused(checked)));
+    output::line_end(out, end)
 }
 
 // The number behind a child's, from which the next edge is asked for.
-fn behind(child: u64) -> u64 {
-    if child < NONE { child + 1 } else { NONE }
-}
-
-// Writes the edges of a store that has been tested.
-fn fill(head: &[u64], instants: &[u64], poses: &[f64], table: &mut [u64])
-    requires { ⌜ SoundStore (storeOf (now head) (now instants) (now poses)) ⌝ }
+pub(crate) fn behind(child: u64) -> u64
+    ensures { λ r. ⌜ (child < 2 ^ 32 → r ≡ child + 1) ⌝ }
 {
-    let mut from = 0;
-    let mut k = 0;
-    while k < MOST {
-        let NextEdge::Edge {
-            child,
-            parent,
-            count,
-            coverage,
-        } = checked::edge_from(head, instants, poses, from)
-        else {
-            return;
-        };
-        set(table, k, child, parent, count, coverage);
-        from = behind(child);
-        k += 1;
+    if child < u64::MAX { child + 1 } else { child }
+}
+
+// The edge of a frame. End for a root, which has none.
+pub(crate) fn edge_of(head: &[u64], instants: &[u64], poses: &[f64], frame: u64) -> NextEdge
+    requires { ⌜ SoundStore (storeOf (now head) (now instants) (now poses)) ⌝ }
+    ensures { λ r. ⌜ r ≡ told (Option·map (λ e. (frame, e)) (get (treeOf (storeOf (now (head .entry)) (now (instants .entry)) (now (poses .entry)))) frame)) ⌝ }
+{
+    let NextEdge::Edge {
+        child,
+        parent,
+        count,
+        coverage,
+    } = checked::edge_from(head, instants, poses, frame)
+    else {
+        return NextEdge::End;
+    };
+    if child != frame {
+        return NextEdge::End;
     }
-}
-
-// Writes the edges of a store that is sound; else the answer is the refusal, 1 or 2.
-pub(crate) fn read(head: &[u64], instants: &[u64], poses: &[f64], table: &mut [u64]) -> Answer {
-    match check::check(head, instants, poses) {
-        Checked::Sizes => return Answer::Sizes,
-        Checked::UnsoundStore => return Answer::UnsoundStore,
-        Checked::Sound => {
-            fill(head, instants, poses, table);
-            return Answer::Done;
-        }
+    NextEdge::Edge {
+        child,
+        parent,
+        count,
+        coverage,
     }
-}
-
-pub(crate) fn child(table: &[u64], k: usize) -> u64 {
-    word(table, k, CHILD)
-}
-
-pub(crate) fn parent(table: &[u64], k: usize) -> u64 {
-    word(table, k, PARENT)
-}
-
-pub(crate) fn is_static(table: &[u64], k: usize) -> bool {
-    word(table, k, KIND) == STATIC
-}
-
-// Which edge has the frame as its child; MOST where none has.
-pub(crate) fn edge_of(table: &[u64], frame: u64) -> usize {
-    let mut k = 0;
-    while k < MOST {
-        if child(table, k) == frame {
-            return k;
-        }
-        k += 1;
-    }
-    k
-}
-
-// The frame's parent; NONE for a root.
-pub(crate) fn above(table: &[u64], frame: u64) -> u64 {
-    parent(table, edge_of(table, frame))
-}
-
-// The first edge from k on under a frame; MOST where there is none.
-pub(crate) fn under(table: &[u64], frame: u64, k: usize) -> usize {
-    let mut i = k;
-    while i < MOST {
-        if parent(table, i) == frame {
-            return i;
-        }
-        i += 1;
-    }
-    MOST
-}
-
-// How many edges there are.
-pub(crate) fn count(table: &[u64]) -> usize {
-    edge_of(table, NONE)
 }
 
 // How many samples, with the range that they are served in.
-fn put_samples(out: &mut [u8], at: usize, table: &[u64], k: usize, between: &[u8]) -> usize {
-    let n = word(table, k, COUNT);
-    if n == 0 {
-        return text::write_bytes(out, at, b"no sample");
-    }
-    let second = text::write_number(out, at, n);
-    let third = put_unit(out, second, n);
+fn put_samples(out: &mut [u8], at: usize, count: u64, start: u64, end: u64, between: &[u8]) -> usize
+    ensures { λ r. ⌜ (r, now (out .exit)) ≡ writtenAll (now (out .entry)) at (samplesTexts count ++ (now (between .entry) ∷ (secondsTexts start ++ (ascii " to " ∷ secondsTexts end)))) ⌝ }
+{
+    let second = text::write_number(out, at, count);
+    let third = put_unit(out, second, count);
     let fourth = text::write_bytes(out, third, between);
-    let fifth = figures::put_seconds(out, fourth, word(table, k, START));
+    let fifth = figures::put_seconds(out, fourth, start);
     let sixth = text::write_bytes(out, fifth, b" to ");
-    figures::put_seconds(out, sixth, word(table, k, END))
+    figures::put_seconds(out, sixth, end)
 }
 
-fn put_unit(out: &mut [u8], at: usize, n: u64) -> usize {
-    if n == 1 {
+fn put_unit(out: &mut [u8], at: usize, count: u64) -> usize
+    ensures { λ r. ⌜ (r, now (out .exit)) ≡ written (now (out .entry)) at (cond (eqb count 1) (ascii " sample") (ascii " samples")) ⌝ }
+{
+    if count == 1 {
         return text::write_bytes(out, at, b" sample");
     }
     text::write_bytes(out, at, b" samples")
 }
 
-// The kind of edge k, its count of samples and their range, with the bytes that stand between these three.
+// The word for a moving edge, with what stands behind it.
+fn put_moving(out: &mut [u8], at: usize, between: &[u8]) -> usize
+    ensures { λ r. ⌜ (r, now (out .exit)) ≡ writtenAll (now (out .entry)) at (ascii "moving" ∷ now (between .entry) ∷ []) ⌝ }
+{
+    let next = text::write_bytes(out, at, b"moving");
+    text::write_bytes(out, next, between)
+}
+
+// The kind of an edge, its count of samples and their range, with the bytes that stand between these three.
 pub(crate) fn put_edge(
     out: &mut [u8],
     at: usize,
-    table: &[u64],
-    k: usize,
+    count: usize,
+    coverage: Coverage,
     between: &[u8],
-) -> usize {
-    if is_static(table, k) {
-        return text::write_bytes(out, at, b"static");
+) -> usize
+    ensures { λ r. ⌜ (r, now (out .exit)) ≡ writtenAll (now (out .entry)) at (coverageTexts (now (between .entry)) count coverage) ⌝ }
+{
+    match coverage {
+        Coverage::AllTime => return text::write_bytes(out, at, b"static"),
+        Coverage::Range { start, end } => {
+            let next = put_moving(out, at, between);
+            return put_samples(out, next, count as u64, start, end, between);
+        }
+        Coverage::Empty => {
+            let next = put_moving(out, at, between);
+            return text::write_bytes(out, next, b"no sample");
+        }
     }
-    let second = text::write_bytes(out, at, b"moving");
-    let third = text::write_bytes(out, second, between);
-    put_samples(out, third, table, k, between)
 }

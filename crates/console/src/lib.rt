@@ -1,5 +1,5 @@
-// What the programs say to people: figures, refusals in words, pictures of the tree. And how they read and write, so
-// that no answer is lost. Each function is proved to be safe and to end; what is printed is compared with texts.
+// What the programs say to people: figures, refusals in words, lookups explained, pictures of the tree. Each function
+// writes into a lent buffer the text that specs/ define. And how the programs read and write, so that no answer is lost.
 pub mod dot;
 mod edges;
 pub mod figures;
@@ -8,6 +8,5 @@ pub mod output;
 pub mod refusals;
 mod retry;
 pub mod show;
-mod sides;
 pub mod tree;
 pub mod why;

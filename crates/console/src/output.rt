@@ -10,7 +10,7 @@ ghost use Rattle.text.specs.Writing.{written};
 
 const NOWHERE: usize = usize::MAX;
 
-// More bytes than a line of an answer has: 256 levels of a tree and a frame's description.
+// More bytes than most answers have. The longer ones are written out as they grow, or find the buffer empty.
 const SPARE: usize = 1024;
 
 // How many bytes one write takes: 0 where it is to be made again.

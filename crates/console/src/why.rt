@@ -1,90 +1,114 @@
-// `why`: the path of a lookup, hop by hop.
+// `why`: the path of a lookup, hop by hop. What is written is stated in specs/Why.antt.
 use crate::edges;
 use crate::figures;
 use crate::output;
 use crate::refusals;
 use crate::show;
-use crate::sides;
-use registry::answer::Answer;
+use buffer::coverage::Coverage;
 use registry::answer::Reply;
-use registry::get_transform;
-use registry::latest_common_time;
+use registry::check;
+use registry::check::Checked;
+use registry::checked;
+use registry::checked::NextEdge;
+ghost use mathlib.Core.Path.{_≡_};
+ghost use mathlib.Core.Bool.{cond};
+ghost use mathlib.Core.List.{_∷_, [], _++_};
+ghost use lib.Dec.{eqb};
+ghost use Rattle.text.specs.Ascii.{ascii};
+ghost use Rattle.text.specs.Writing.{written, writtenAll};
+ghost use Rattle.registry.specs.Store.{treeOf};
+ghost use Rattle.registry.specs.Sound.{SoundStore};
+ghost use Rattle.registry.specs.Answers.{replied};
+ghost use Rattle.registry.specs.Path.{chain, until, hops, lookup};
+ghost use Rattle.registry.specs.Calls.{storeOf};
+ghost use Rattle.console.specs.Figures.{frameTexts};
+ghost use Rattle.console.specs.Edges.{coverageTexts};
+ghost use Rattle.console.specs.Why.{servedAt, toldLine, hopLines, climbTexts, meetingTexts, timeTexts, commonTexts, outcomeTexts, lookupTexts, pathTexts, treeTexts, whyTexts};
 
-// Whether a lookup over this one hop is answered at the instant.
-fn is_served(
-    head: &[u64],
-    instants: &[u64],
-    poses: &[f64],
-    child: u64,
-    parent: u64,
-    t: u64,
-) -> bool {
-    if 0xffff_ffff < child {
-        return false;
+// Whether an edge is served at an instant.
+fn is_served(coverage: Coverage, t: u64) -> bool
+    ensures { λ r. ⌜ r ≡ servedAt t coverage ⌝ }
+{
+    match coverage {
+        Coverage::AllTime => true,
+        Coverage::Range { start, end } => (start <= t) & (t <= end),
+        Coverage::Empty => false,
     }
-    if 0xffff_ffff < parent {
-        return false;
-    }
-    let seen = get_transform::get_transform(head, instants, poses, parent as u32, child as u32, t);
-    if let Answer::Pose(_) = seen {
-        return true;
-    }
-    false
 }
 
-fn put_served(out: &mut [u8], at: usize, served: bool) -> usize {
+fn put_served(out: &mut [u8], at: usize, served: bool) -> usize
+    ensures { λ r. ⌜ (r, now (out .exit)) ≡ written (now (out .entry)) at (cond served (ascii ": served\n") (ascii ": not served\n")) ⌝ }
+{
     if served {
         return text::write_bytes(out, at, b": served\n");
     }
     text::write_bytes(out, at, b": not served\n")
 }
 
-// A line for edge k: its child, its parent, its kind and range, and whether it is served.
-fn put_hop(out: &mut [u8], at: usize, table: &[u64], k: usize, served: bool) -> usize {
+// The two frames of a hop.
+fn put_ends(out: &mut [u8], at: usize, child: u64, parent: u64) -> usize
+    ensures { λ r. ⌜ (r, now (out .exit)) ≡ writtenAll (now (out .entry)) at (ascii "  " ∷ (frameTexts child ++ (ascii " under " ∷ (frameTexts parent ++ (ascii ", " ∷ []))))) ⌝ }
+{
     let first = text::write_bytes(out, at, b"  ");
-    let second = figures::put_frame(out, first, edges::child(table, k));
+    let second = figures::put_frame(out, first, child);
     let third = text::write_bytes(out, second, b" under ");
-    let fourth = figures::put_frame(out, third, edges::parent(table, k));
-    let fifth = text::write_bytes(out, fourth, b", ");
-    let sixth = edges::put_edge(out, fifth, table, k, b", ");
-    put_served(out, sixth, served)
+    let fourth = figures::put_frame(out, third, parent);
+    text::write_bytes(out, fourth, b", ")
 }
 
-// The hops from a frame up to the goal, or to the root where the goal is none.
+// A hop on a line of its own: its frames, its kind and range, and whether it is served at the instant.
+fn put_hop(
+    out: &mut [u8],
+    at: usize,
+    child: u64,
+    parent: u64,
+    count: usize,
+    coverage: Coverage,
+    t: u64,
+) -> usize
+    ensures { λ r. ⌜ (r, now (out .exit)) ≡ writtenAll (now (out .entry)) at (toldLine t child parent count coverage) ⌝ }
+{
+    let second = put_ends(out, at, child, parent);
+    let third = edges::put_edge(out, second, count, coverage, b", ");
+    put_served(out, third, is_served(coverage, t))
+}
+
+// The hops from a frame up to where its climb ends.
 fn put_hops(
     head: &[u64],
     instants: &[u64],
     poses: &[f64],
-    table: &[u64],
     frame: u64,
-    goal: u64,
+    end: u64,
     t: u64,
     out: &mut [u8],
     at: usize,
-) -> usize {
+) -> usize
+    requires { ⌜ SoundStore (storeOf (now head) (now instants) (now poses)) ⌝ }
+    ensures { λ r. ⌜ (r, now (out .exit)) ≡ writtenAll (now (out .entry)) at (let u = treeOf (storeOf (now (head .entry)) (now (instants .entry)) (now (poses .entry))) in hopLines t (hops u (until (eqb end) (chain u frame)))) ⌝ }
+{
     let mut to = at;
     let mut from = frame;
-    let mut steps = 0;
-    while steps < edges::MOST {
-        let k = edges::edge_of(table, from);
-        let parent = edges::parent(table, k);
-        if from == goal {
+    while from != end {
+        let NextEdge::Edge {
+            child,
+            parent,
+            count,
+            coverage,
+        } = edges::edge_of(head, instants, poses, from)
+        else {
             return to;
-        }
-        if parent == edges::NONE {
-            return to;
-        }
-        let served = is_served(head, instants, poses, from, parent, t);
-        let free = output::spare(out, to);
-        to = put_hop(out, free, table, k, served);
+        };
+        to = put_hop(out, to, child, parent, count, coverage, t);
         from = parent;
-        steps += 1;
     }
     to
 }
 
 // Which climb follows, from which frame to which.
-fn put_climb(out: &mut [u8], at: usize, name: &[u8], frame: u64, end: u64) -> usize {
+fn put_climb(out: &mut [u8], at: usize, name: &[u8], frame: u64, end: u64) -> usize
+    ensures { λ r. ⌜ (r, now (out .exit)) ≡ writtenAll (now (out .entry)) at (climbTexts (now (name .entry)) frame end) ⌝ }
+{
     let second = text::write_bytes(out, at, b"from the ");
     let third = text::write_bytes(out, second, name);
     let fourth = text::write_bytes(out, third, b", ");
@@ -97,110 +121,122 @@ fn put_climb(out: &mut [u8], at: usize, name: &[u8], frame: u64, end: u64) -> us
     text::write_bytes(out, seventh, b":\n")
 }
 
-// Where a climb ends: where both meet, or at its root.
-fn end_of(table: &[u64], frame: u64, meeting: u64) -> u64 {
-    if meeting == edges::NONE {
-        return sides::root(table, frame);
-    }
-    meeting
-}
-
 // One climb with its hops.
 fn put_side(
     head: &[u64],
     instants: &[u64],
     poses: &[f64],
-    table: &[u64],
     name: &[u8],
     frame: u64,
-    meeting: u64,
+    end: u64,
     t: u64,
     out: &mut [u8],
     at: usize,
-) -> usize {
-    let free = output::spare(out, at);
-    let next = put_climb(out, free, name, frame, end_of(table, frame, meeting));
-    put_hops(head, instants, poses, table, frame, meeting, t, out, next)
+) -> usize
+    requires { ⌜ SoundStore (storeOf (now head) (now instants) (now poses)) ⌝ }
+    ensures { λ r. ⌜ (r, now (out .exit)) ≡ writtenAll (now (out .entry)) at (let u = treeOf (storeOf (now (head .entry)) (now (instants .entry)) (now (poses .entry))) in climbTexts (now (name .entry)) frame end ++ hopLines t (hops u (until (eqb end) (chain u frame)))) ⌝ }
+{
+    let next = put_climb(out, at, name, frame, end);
+    put_hops(head, instants, poses, frame, end, t, out, next)
 }
 
-fn put_meeting(out: &mut [u8], at: usize, meeting: u64) -> usize {
-    if meeting == edges::NONE {
+// Where the two climbs meet, if they end at one frame.
+fn put_meeting(out: &mut [u8], at: usize, target_end: u64, source_end: u64) -> usize
+    ensures { λ r. ⌜ (r, now (out .exit)) ≡ writtenAll (now (out .entry)) at (meetingTexts «target_end» «source_end») ⌝ }
+{
+    if target_end != source_end {
         return text::write_bytes(out, at, b"the climbs do not meet\n");
     }
     let next = text::write_bytes(out, at, b"the climbs meet at ");
-    let end = figures::put_frame(out, next, meeting);
+    let end = figures::put_frame(out, next, target_end);
     output::line_end(out, end)
 }
 
 // The latest common time, or who is to blame.
-fn put_common(out: &mut [u8], at: usize, common: Answer) -> usize {
-    let next = text::write_bytes(out, at, b"latest common time: ");
+fn put_time(out: &mut [u8], at: usize, common: Reply) -> usize
+    ensures { λ r. ⌜ (r, now (out .exit)) ≡ writtenAll (now (out .entry)) at (timeTexts (replied common)) ⌝ }
+{
     match common {
-        Answer::Static => return text::write_bytes(out, next, b"any, no hop moves\n"),
-        Answer::At(t) => {
-            let end = figures::put_seconds(out, next, t);
-            return output::line_end(out, end);
-        }
-        _ => {
-            let end = refusals::put_refusal(out, next, Reply::of_tree(common));
-            return output::line_end(out, end);
-        }
+        Reply::Static => return text::write_bytes(out, at, b"any, no hop moves"),
+        Reply::At(t) => return figures::put_seconds(out, at, t),
+        _ => return refusals::put_refusal(out, at, common),
     }
 }
 
-fn put_lookup(out: &mut [u8], at: usize, seen: Answer) -> usize {
-    let next = text::write_bytes(out, at, b"lookup: ");
-    let Answer::Pose(_) = seen else {
-        let end = refusals::put_refusal(out, next, Reply::of_tree(seen));
-        return output::line_end(out, end);
-    };
-    text::write_bytes(out, next, b"answered\n")
+fn put_common(out: &mut [u8], at: usize, common: Reply) -> usize
+    ensures { λ r. ⌜ (r, now (out .exit)) ≡ writtenAll (now (out .entry)) at (commonTexts (replied common)) ⌝ }
+{
+    let next = text::write_bytes(out, at, b"latest common time: ");
+    let end = put_time(out, next, common);
+    output::line_end(out, end)
 }
 
-// The path of two frames of the table, the times that they have in common, and what the lookup answers.
+// That the lookup is answered, or why not.
+fn put_outcome(out: &mut [u8], at: usize, seen: Reply) -> usize
+    ensures { λ r. ⌜ (r, now (out .exit)) ≡ writtenAll (now (out .entry)) at (outcomeTexts (replied seen)) ⌝ }
+{
+    let Reply::Refusal(_, _) = seen else {
+        return text::write_bytes(out, at, b"answered");
+    };
+    refusals::put_refusal(out, at, seen)
+}
+
+fn put_lookup(out: &mut [u8], at: usize, seen: Reply) -> usize
+    ensures { λ r. ⌜ (r, now (out .exit)) ≡ writtenAll (now (out .entry)) at (lookupTexts (replied seen)) ⌝ }
+{
+    let next = text::write_bytes(out, at, b"lookup: ");
+    let end = put_outcome(out, next, seen);
+    output::line_end(out, end)
+}
+
+// The path of two frames, the time that they have in common, and what the lookup replies.
 fn put_path(
     head: &[u64],
     instants: &[u64],
     poses: &[f64],
-    table: &[u64],
+    target: u32,
+    source: u32,
+    t: u64,
+    seen: Reply,
+    out: &mut [u8],
+    at: usize,
+) -> usize
+    requires { ⌜ SoundStore (storeOf (now head) (now instants) (now poses)) × (replied seen ≡ lookup (treeOf (storeOf (now head) (now instants) (now poses))) target source t) ⌝ }
+    ensures { λ r. ⌜ (r, now (out .exit)) ≡ writtenAll (now (out .entry)) at (pathTexts (treeOf (storeOf (now (head .entry)) (now (instants .entry)) (now (poses .entry)))) target source t) ⌝ }
+{
+    let a = target as u64;
+    let b = source as u64;
+    let ends = checked::climb_ends(head, instants, poses, a, b);
+    let x = ends.target;
+    let y = ends.source;
+    let second = put_side(head, instants, poses, b"target", a, x, t, out, at);
+    let third = put_side(head, instants, poses, b"source", b, y, t, out, second);
+    let fourth = put_meeting(out, third, x, y);
+    let common = checked::latest_common_time(head, instants, poses, target, source);
+    let fifth = put_common(out, fourth, Reply::of_tree(common));
+    put_lookup(out, fifth, seen)
+}
+
+// Of a sound store: the path and the lookup, or the lookup's refusal alone where a frame is unknown.
+fn put_sound(
+    head: &[u64],
+    instants: &[u64],
+    poses: &[f64],
     target: u32,
     source: u32,
     t: u64,
     out: &mut [u8],
     at: usize,
-) -> usize {
-    let a = target as u64;
-    let b = source as u64;
-    let met = sides::meeting(table, a, b);
-    let second = put_side(head, instants, poses, table, b"target", a, met, t, out, at);
-    let third = put_side(
-        head,
-        instants,
-        poses,
-        table,
-        b"source",
-        b,
-        met,
-        t,
-        out,
-        second,
-    );
-    let free = output::spare(out, third);
-    let fourth = put_meeting(out, free, met);
-    let common = latest_common_time::latest_common_time(head, instants, poses, target, source);
-    let fifth = put_common(out, fourth, common);
-    let seen = get_transform::get_transform(head, instants, poses, target, source, t);
-    put_lookup(out, fifth, seen)
-}
-
-// Whether a lookup is refused before there is a path to speak of: with 1, 2 or 9.
-fn has_no_path(seen: Answer) -> bool {
-    match seen {
-        Answer::Sizes => true,
-        Answer::UnsoundStore => true,
-        Answer::UnknownFrame(_) => true,
-        _ => false,
+) -> usize
+    requires { ⌜ SoundStore (storeOf (now head) (now instants) (now poses)) ⌝ }
+    ensures { λ r. ⌜ (r, now (out .exit)) ≡ writtenAll (now (out .entry)) at (treeTexts (treeOf (storeOf (now (head .entry)) (now (instants .entry)) (now (poses .entry)))) target source t) ⌝ }
+{
+    let answer = checked::get_transform(head, instants, poses, target, source, t);
+    let seen = Reply::of_tree(answer);
+    if refusals::number(seen) == 9 {
+        return put_lookup(out, at, seen);
     }
+    put_path(head, instants, poses, target, source, t, seen, out, at)
 }
 
 // Each hop between the target and the source, whether it is served at the instant, and what follows from that.
@@ -213,13 +249,13 @@ pub fn why(
     t: u64,
     out: &mut [u8],
     at: usize,
-) -> usize {
-    let mut table = [edges::NONE; edges::TABLE];
+) -> usize
+    ensures { λ r. ⌜ (r, now (out .exit)) ≡ writtenAll (now (out .entry)) at (whyTexts target source t (storeOf (now (head .entry)) (now (instants .entry)) (now (poses .entry)))) ⌝ }
+{
     let next = show::put_question(out, at, target, source, t);
-    let seen = get_transform::get_transform(head, instants, poses, target, source, t);
-    if has_no_path(seen) {
-        return put_lookup(out, next, seen);
-    }
-    edges::read(head, instants, poses, &mut table);
-    put_path(head, instants, poses, &table, target, source, t, out, next)
+    let checked = check::check(head, instants, poses);
+    let Checked::Sound = checked else {
+        return put_lookup(out, next, Reply::of_tree(edges::refused(checked)));
+    };
+    put_sound(head, instants, poses, target, source, t, out, next)
 }

@@ -36,6 +36,15 @@ side t f g = until (λ x. member x (chain t g)) (chain t f)
 unfoldable pub connected : Tree → ℕ → ℕ → Bool
 connected t f g = any (λ x. member x (chain t g)) (chain t f)
 
+-- of x and xs the first that passes, or the last where none does
+abbrev pub firstOrLast : (ℕ → Bool) → ℕ → List ℕ → ℕ
+firstOrLast test x [] = x
+firstOrLast test x (y ∷ ys) = cond (test x) x (firstOrLast test y ys)
+
+-- the frame at which the climb from f ends: the first of its chain that is g or above g, or the root where there is none
+unfoldable pub climbEnd : Tree → ℕ → ℕ → ℕ
+climbEnd t f g = firstOrLast (λ x. member x (chain t g)) f (ancestors t f)
+
 -- a hop: a child and its edge to its parent
 abbrev pub Hop : Type 0
 Hop = ℕ × Edge

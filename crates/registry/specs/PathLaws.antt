@@ -4,6 +4,7 @@ use mathlib.Core.Path.{_≡_}
 use mathlib.Core.Logic.{_↔_, _⊎_}
 use mathlib.Core.Bool.{true, false, cond}
 use mathlib.Core.List.{List, [], _∷_, _++_}
+use lib.Dec.{eqb}
 use Rattle.time.specs.Reply.{Carried, nothing, frame, hop, answer, refusal}
 use Rattle.geometry.specs.Isometry.{identity}
 use Rattle.buffer.specs.declared.kind.Kind.the-variants.{Static}
@@ -17,7 +18,7 @@ use Rattle.registry.specs.Answers.{done, pose, static, at}
 use Rattle.registry.specs.Laws.{SoundTree}
 use Rattle.registry.specs.Store.{Store, treeOf}
 use Rattle.registry.specs.Calls.{addOf, wipeOf, lookupOf, commonTimeOf}
-use Rattle.registry.specs.Path.{Hop, chain, hops, side, connected, known, lookup, commonTime}
+use Rattle.registry.specs.Path.{Hop, chain, until, hops, side, connected, climbEnd, known, lookup, commonTime}
 
 -- ---- the path of two frames
 
@@ -29,6 +30,11 @@ path t target source = hops t (side t target source) ++ hops t (side t source ta
 abbrev pub Every : (Hop → Type 0) → List Hop → Type 0
 Every P [] = Unit {0}
 Every P (h ∷ hs) = P h × Every P hs
+
+-- Two climbs end at one frame exactly where there is a path, and the hops of each side are those up to where its climb ends.
+abbrev pub ClimbsMeet : Type 0
+ClimbsMeet = (t : Tree) → rising t ≡ true → noCircle t ≡ true → (f g : ℕ)
+    → (connected t f g ≡ eqb (climbEnd t f g) (climbEnd t g f)) × (hops t (side t f g) ≡ hops t (until (eqb (climbEnd t f g)) (chain t f)))
 
 -- ---- "The same frame twice gives identity, or Static, even when unknown"
 

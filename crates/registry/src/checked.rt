@@ -5,6 +5,8 @@ use crate::answer::Answer;
 use crate::common_time::common;
 use crate::layout;
 use crate::lookup::resolve;
+use crate::paths::climbs;
+pub use crate::paths::climbs::ClimbEnds;
 use crate::paths::edges;
 use crate::paths::frames;
 use crate::paths::frames::Endpoints;
@@ -25,7 +27,7 @@ ghost use Rattle.registry.specs.Store.{sizesFit, limitsOf, treeOf, store
 ghost use Rattle.registry.specs.Sound.{SoundStore};
 ghost use Rattle.registry.specs.Answers.{replyOf};
 ghost use Rattle.registry.specs.Calls.{outcome, storeOf, written};
-ghost use Rattle.registry.specs.Path.{lookup, commonTime};
+ghost use Rattle.registry.specs.Path.{climbEnd, lookup, commonTime};
 ghost use Rattle.registry.specs.NextEdge.{edgeFrom, told};
 
 // Overwrites everything with a store of these sizes and this age, with no row used.
@@ -83,6 +85,21 @@ pub fn edge_from(head: &[u64], instants: &[u64], poses: &[f64], frame: u64) -> N
         count: layout::count_at(head, row) as usize,
         coverage: edges::row_coverage(head, instants, row),
     }
+}
+
+// Where the climbs from two frames end: both at the frame where they meet, or each at its root.
+pub fn climb_ends(
+    head: &[u64],
+    instants: &[u64],
+    poses: &[f64],
+    target: u64,
+    source: u64,
+) -> ClimbEnds
+    requires { ⌜ SoundStore (storeOf (now head) (now instants) (now poses)) ⌝ }
+    ensures { λ r. ⌜ (let t = treeOf (storeOf (now (head .entry)) (now (instants .entry)) (now (poses .entry))) in
+        (r .target ≡ climbEnd t target source) × (r .source ≡ climbEnd t source target)) ⌝ }
+{
+    climbs::climb_ends(head, target, source)
 }
 
 // Leaves a store of the same sizes and age with no row used.

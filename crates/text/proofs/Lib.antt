@@ -14,3 +14,5 @@ pub mod DigitCounts
 pub mod Stores
 pub mod FloatText
 pub mod RoundTrip
+pub mod Behind
+pub mod WrittenWhole

@@ -1,4 +1,5 @@
--- What holds of reading and writing together, proved in proofs/RoundTrip.antt, and of decimals, proved in proofs/DecimalNearest.antt.
+-- What holds of reading and writing together, proved in proofs/RoundTrip.antt, of texts written one behind the other, proved in
+-- proofs/WrittenWhole.antt, and of decimals, proved in proofs/DecimalNearest.antt.
 use Prim.Native.Nat.{ℕ, _+_, _-_, _*_, _^_, _≤_, _<_}
 use mathlib.Core.Path.{_≡_}
 use mathlib.Core.Bool.{Bool, false}
@@ -10,7 +11,7 @@ use lib.Ieee.{Float, nan, binary64, fits, isNan}
 use lib.Ieee.Exact.{HasValue}
 use Rattle.text.specs.Decimal.{rounded}
 use Rattle.text.specs.Reading.{upToSpace, readAt, number, frame, float, byte}
-use Rattle.text.specs.Writing.{numberText, floatText, byteText, written}
+use Rattle.text.specs.Writing.{numberText, floatText, byteText, written, writtenAll, joined}
 
 -- wherever the text stands in a line, with the line's end or a space behind it, the value is read and the text goes on behind that
 abbrev pub ReadBack : {A : Type 0} → (List ℕ → Option A) → A → List ℕ → Type 0
@@ -46,6 +47,10 @@ WrittenBack = (A : Type 0) (form : List ℕ → Option A) (a : A) (text : List �
 -- the text of a number above 0 begins with no `0` (48)
 abbrev pub NoZeroInFront : Type 0
 NoZeroInFront = (n : ℕ) → 0 < n → n < 2 ^ 64 → getD (numberText n) 0 0 ≡ 48 → ⊥
+
+-- where there is room for all of the texts, they are written as one text
+abbrev pub WrittenWhole : Type 0
+WrittenWhole = (texts : List (List ℕ)) (out : List ℕ) (at : ℕ) → at + length (joined texts) ≤ length out → writtenAll out at texts ≡ written out at (joined texts)
 
 -- a float is n * 2^-1074 in size, exactly, with the sign
 abbrev pub Units : Float → Bool → ℕ → Type 0

@@ -1,3 +1,4 @@
+pub mod Ascii
 pub mod Digits
 pub mod Decimal
 pub mod Reading

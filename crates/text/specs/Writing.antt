@@ -25,3 +25,13 @@ written out at text =
     cond (leb (at + length text) (length out))
     (at + length text, take at out ++ text ++ drop (at + length text) out)
     (at, out)
+
+-- Where the texts end that are written one behind the other, and the buffer with them in it. A text without room is left out.
+unfoldable pub writtenAll : List ℕ → ℕ → List (List ℕ) → ℕ × List ℕ
+writtenAll out at [] = (at, out)
+writtenAll out at (t ∷ texts) = writtenAll (written out at t .1) (written out at t .0) texts
+
+-- the texts as one
+abbrev pub joined : List (List ℕ) → List ℕ
+joined [] = []
+joined (t ∷ texts) = t ++ joined texts

@@ -111,7 +111,7 @@ pub fn same(a: &[u8], b: &[u8]) -> bool
 }
 
 // The place of the first byte b from `at` on, or the line's end.
-pub(crate) fn first(line: &[u8], at: usize, b: u8) -> usize
+pub fn first(line: &[u8], at: usize, b: u8) -> usize
     ensures { λ r. ⌜ r ≡ at + length (before b (drop at (now (line .entry)))) ⌝ }
 {
     let mut i = at;

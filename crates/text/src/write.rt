@@ -79,6 +79,13 @@ pub fn write_number(out: &mut [u8], at: usize, n: u64) -> usize
     write_digits(out, at, n, 10, digit_count(n))
 }
 
+// The last k decimal digits of n, zeros in front included.
+pub fn write_last_digits(out: &mut [u8], at: usize, n: u64, k: usize) -> usize
+    ensures { λ r. ⌜ (r, now (out .exit)) ≡ written (now (out .entry)) at (digits 10 k n) ⌝ }
+{
+    write_digits(out, at, n, 10, k)
+}
+
 // The 16 hexadecimal digits of the bits, or `nan`.
 pub fn write_float(out: &mut [u8], at: usize, x: f64) -> usize
     ensures { λ r. ⌜ (r, now (out .exit)) ≡ written (now (out .entry)) at (floatText x) ⌝ }

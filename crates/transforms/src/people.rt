@@ -1,4 +1,5 @@
 // The operations that answer in lines for people. Each answer ends with a line end, so that an empty line is its last.
+// What was answered before a long one is written out first, so that it finds the buffer empty.
 use super::operands;
 use super::operands::Query;
 use super::output;
@@ -32,7 +33,8 @@ pub(crate) fn why(
     let Query::Value(target, source, t) = operands::read_query(line, at) else {
         return output::malformed(out, to);
     };
-    console::why::why(head, instants, poses, target, source, t, out, to)
+    let free = console::output::flush(out, to);
+    console::why::why(head, instants, poses, target, source, t, out, free)
 }
 
 // `tree`
@@ -48,7 +50,8 @@ pub(crate) fn tree(
     if !text::ended(line, at) {
         return output::malformed(out, to);
     }
-    console::tree::tree(head, instants, poses, out, to)
+    let free = console::output::flush(out, to);
+    console::tree::tree(head, instants, poses, out, free)
 }
 
 // `dot`
@@ -64,5 +67,6 @@ pub(crate) fn dot(
     if !text::ended(line, at) {
         return output::malformed(out, to);
     }
-    console::dot::dot(head, instants, poses, out, to)
+    let free = console::output::flush(out, to);
+    console::dot::dot(head, instants, poses, out, free)
 }

@@ -11,9 +11,12 @@ use lib.Dec.{eqb}
 use borrow.Author.Tests.{eq-eqb, ne-eqb, eqb-true}
 use Rattle.buffer.specs.Map.{get}
 use Rattle.buffer.proofs.Cases.{both, false-true}
+use Rattle.buffer.proofs.Maps.{rising-is}
 use Rattle.registry.specs.Tree.{Edge, Tree, ancestors, member}
-use Rattle.registry.specs.Path.{Hop, chain, until, any, side, connected, hops}
-use Rattle.registry.specs.paths.Walks.{hopsTo, firstOrLast, climbEnd}
+use Rattle.registry.specs.Path.{Hop, chain, until, any, side, connected, firstOrLast, climbEnd, hops}
+use Rattle.registry.specs.PathLaws.{ClimbsMeet}
+use Rattle.registry.specs.paths.Walks.{hopsTo}
+use Rattle.registry.proofs.soundness.NoCircle.{circle-grounded}
 use Rattle.registry.proofs.paths.Climbing.{Grounded, grounded-ranked, above-lower}
 use Rattle.registry.proofs.paths.Ancestors.{ancestors-none, ancestors-some, climb-ind}
 use Rattle.registry.proofs.paths.SideHops.{chain-up, hops-end, hops-up, hops-root}
@@ -161,3 +164,8 @@ module _ (t : Tree) (gr : Grounded t) where
       ∙ ap {B = List Hop} (λ hs. (f, e) ∷ hs) ih
       ∙ sym (ap (hops t) (side-up f g e q out) ∙ rw q)))
       f
+
+-- ---- the law
+
+pub climbsMeet : ClimbsMeet
+climbsMeet t rises circles f g = let gr = circle-grounded t (rising-is t .0 rises) circles in (ends-meet t gr f g, sym (hops-end-at t gr f g))

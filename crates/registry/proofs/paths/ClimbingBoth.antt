@@ -11,8 +11,8 @@ use Rattle.buffer.proofs.Cases.{both}
 use Rattle.registry.specs.declared.paths.climbs.Climb.the-variants.{Met}
 use Rattle.registry.specs.Tree.{Edge, Tree, ancestors, member}
 use Rattle.registry.specs.Sound.{climb}
-use Rattle.registry.specs.Path.{chain}
-use Rattle.registry.specs.paths.Walks.{climbTo, climbEnd}
+use Rattle.registry.specs.Path.{chain, climbEnd}
+use Rattle.registry.specs.paths.Walks.{climbTo}
 use Rattle.registry.proofs.paths.Climbing.{edge-or, Grounded}
 use Rattle.registry.proofs.paths.Ancestors.{ancestors-none, ancestors-some}
 use Rattle.registry.proofs.paths.TreeWalks.{met-above}

@@ -1,9 +1,9 @@
 -- The walks up from two frames, as the contracts of the private functions cite them. No public contract rests on these.
 use Prim.Native.Nat.{ℕ, _^_, _<_}
 use mathlib.Core.Path.{_≡_}
-use mathlib.Core.Bool.{Bool, true, cond}
+use mathlib.Core.Bool.{true, cond}
 use mathlib.Core.Option.{some}
-use mathlib.Core.List.{List, [], _∷_}
+use mathlib.Core.List.{List}
 use lib.Dec.{eqb}
 use lib.ListN.{length}
 use Rattle.time.specs.Reply.{Reply, answer, refusal, frame, _then_}
@@ -27,15 +27,6 @@ hopsTo t f top = hops t (until (eqb top) (chain t f))
 -- how the climb from f towards the goal ends: at the goal where that is above f, else at the root with every frame above f passed
 abbrev pub climbTo : Tree → ℕ → ℕ → Climb
 climbTo t f goal = cond (member goal (ancestors t f)) Met (Root (length (ancestors t f)))
-
--- of x and xs the first that passes, or the last where none does
-abbrev pub firstOrLast : (ℕ → Bool) → ℕ → List ℕ → ℕ
-firstOrLast test x [] = x
-firstOrLast test x (y ∷ ys) = cond (test x) x (firstOrLast test y ys)
-
--- the frame at which the climb from f ends: the first of its chain that is g or above g, or the root where there is none
-unfoldable pub climbEnd : Tree → ℕ → ℕ → ℕ
-climbEnd t f g = firstOrLast (λ x. member x (chain t g)) f (ancestors t f)
 
 -- ---- what the walks ask of their callers
 

@@ -7,9 +7,10 @@ ghost use mathlib.Core.Bool.{true};
 ghost use lib.ListN.{length};
 ghost use Rattle.registry.specs.Tree.{ancestors};
 ghost use Rattle.registry.specs.Sound.{climb, noCircle};
+ghost use Rattle.registry.specs.Path.{climbEnd};
 ghost use Rattle.registry.specs.layout.Rows.{RisingRows};
 ghost use Rattle.registry.specs.paths.Edges.{OfTree};
-ghost use Rattle.registry.specs.paths.Walks.{climbTo, climbEnd};
+ghost use Rattle.registry.specs.paths.Walks.{climbTo};
 
 // The frame's parent, or the frame itself where it is no child.
 fn step_up(head: &[u64], frame: u64) -> u64
@@ -50,9 +51,9 @@ fn climb_to(head: &[u64], frame: u64, goal: u64) -> Climb
 }
 
 // Where the climbs from two frames end: both at the frame where they meet, or each at its root.
-pub(crate) struct ClimbEnds {
-    pub(crate) target: u64,
-    pub(crate) source: u64,
+pub struct ClimbEnds {
+    pub target: u64,
+    pub source: u64,
 }
 
 // Of frames with so many frames above them: whichever lies deeper climbs, until they meet or are

@@ -13,9 +13,6 @@ floats n v = sym (length-replicate n v)
 words : (n v : ℕ) → n ≡ length (replicate n v)
 words n v = sym (length-replicate n v)
 
-large-buffer-requires : tie.Need-large-buffer-requires
-large-buffer-requires c κs = tt
-
 slice-aggregate-run : tie.Need-slice-aggregate-run
 slice-aggregate-run c = words 512 0
 
@@ -32,7 +29,7 @@ slice-aggregate-run-5 : tie.Need-slice-aggregate-run-5
 slice-aggregate-run-5 c = words 65536 0
 
 slice-aggregate-run-6 : tie.Need-slice-aggregate-run-6
-slice-aggregate-run-6 c = search needs
+slice-aggregate-run-6 c = words 131072 0
 
 run-requires : tie.Need-run-requires
 run-requires c κs = tt
@@ -44,7 +41,6 @@ pub main-spec : {M : Type 1} → statement M
 main-spec =
     tie.close
     (tie.spec
-    large-buffer-requires
     slice-aggregate-run
     slice-aggregate-run-2
     slice-aggregate-run-3

@@ -3,7 +3,8 @@ use borrow.Author.Needs.{needs}
 use mathlib.Core.Path.{ap, _∙_}
 use Rattle.time.specs.Reply.{Reply}
 use Rattle.registry.specs.Answers.{Value}
-use Rattle.answers.specs.Texts.{writtenAll, replyTexts}
+use Rattle.text.specs.Writing.{writtenAll}
+use Rattle.answers.specs.Texts.{replyTexts}
 use Rattle.answers.proofs.maps.write_answer.Statement.{statement}
 use Rattle.answers.proofs.maps.write_answer.Tie as tie
 

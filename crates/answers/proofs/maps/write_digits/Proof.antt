@@ -4,8 +4,7 @@ use Prim.Native.Nat.{_-_}
 use mathlib.Core.Path.{_≡_, refl, sym, _∙_}
 use mathlib.Core.List.{map}
 use lib.ListN.{length, drop}
-use Rattle.text.specs.Writing.{byteText}
-use Rattle.answers.specs.Texts.{writtenAll}
+use Rattle.text.specs.Writing.{byteText, writtenAll}
 use Rattle.answers.proofs.ByteDigits.{digits-more, digits-last}
 use Rattle.answers.proofs.maps.write_digits.Statement.{statement}
 use Rattle.answers.proofs.maps.write_digits.Tie as tie

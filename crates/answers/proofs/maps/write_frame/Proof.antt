@@ -5,7 +5,8 @@ use Prim.Native.Nat.{ℕ}
 use mathlib.Core.Option.{Option}
 use Rattle.time.specs.Reply.{Reply}
 use Rattle.map_file.specs.Answers.{numberOf}
-use Rattle.answers.specs.Texts.{writtenAll, frameTexts}
+use Rattle.text.specs.Writing.{writtenAll}
+use Rattle.answers.specs.Texts.{frameTexts}
 use Rattle.answers.proofs.maps.write_frame.Statement.{statement}
 use Rattle.answers.proofs.maps.write_frame.Tie as tie
 

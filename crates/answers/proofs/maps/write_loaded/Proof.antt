@@ -11,7 +11,8 @@ use Rattle.map_loading.specs.Loading.{recordOf, loadReply}
 use Rattle.map_loading.specs.declared.answer.Loaded.{Loaded}
 use Rattle.map_loading.specs.declared.answer.Loaded.the-variants as loaded
 use Rattle.map_loading.proofs.answer.Loaded.{the-type}
-use Rattle.answers.specs.Texts.{writtenAll, replyTexts, loadTexts}
+use Rattle.text.specs.Writing.{writtenAll}
+use Rattle.answers.specs.Texts.{replyTexts, loadTexts}
 use Rattle.answers.proofs.maps.write_loaded.Statement.{statement}
 use Rattle.answers.proofs.maps.write_loaded.Tie as tie
 

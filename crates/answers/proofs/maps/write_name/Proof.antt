@@ -11,7 +11,8 @@ use Rattle.map_file.specs.Answers.{partRead}
 use Rattle.map_file.specs.Laws.{IsName}
 use Rattle.map_file.proofs.ByteLists.{bytes-known}
 use Rattle.map_file.proofs.PartIsName.{partIsName}
-use Rattle.answers.specs.Texts.{writtenAll, nameTexts}
+use Rattle.text.specs.Writing.{writtenAll}
+use Rattle.answers.specs.Texts.{nameTexts}
 use Rattle.answers.proofs.NoName.{no-number, no-form}
 use Rattle.answers.proofs.maps.write_name.Statement.{statement}
 use Rattle.answers.proofs.maps.write_name.Tie as tie

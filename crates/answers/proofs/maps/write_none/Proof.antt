@@ -1,6 +1,6 @@
 -- `answers::maps::write_none` meets its contract. Assumes nothing.
 use borrow.Author.Needs.{needs}
-use Rattle.answers.proofs.Behind.{one}
+use Rattle.text.proofs.Behind.{one}
 use Rattle.answers.proofs.maps.write_none.Statement.{statement}
 use Rattle.answers.proofs.maps.write_none.Tie as tie
 

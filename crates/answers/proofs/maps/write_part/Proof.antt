@@ -2,7 +2,7 @@
 use borrow.Author.Needs.{needs}
 use mathlib.Core.List.{[], _∷_, map}
 use Rattle.text.specs.Writing.{byteText}
-use Rattle.answers.proofs.Behind.{one, behind}
+use Rattle.text.proofs.Behind.{one, behind}
 use Rattle.answers.proofs.maps.write_part.Statement.{statement}
 use Rattle.answers.proofs.maps.write_part.Tie as tie
 

@@ -3,7 +3,7 @@ use borrow.Author.Needs.{needs}
 use mathlib.Core.List.{[], _∷_, _++_}
 use Rattle.registry.specs.Answers.{replyOf}
 use Rattle.answers.specs.Texts.{numberWord, replyTexts}
-use Rattle.answers.proofs.Behind.{one, behind}
+use Rattle.text.proofs.Behind.{one, behind}
 use Rattle.answers.proofs.maps.write_record.Statement.{statement}
 use Rattle.answers.proofs.maps.write_record.Tie as tie
 

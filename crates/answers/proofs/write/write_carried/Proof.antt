@@ -1,6 +1,6 @@
 -- `answers::write::write_carried` meets its contract, by what is carried. Assumes nothing.
 use borrow.Author.Needs.{needs}
-use Rattle.answers.proofs.Behind.{none}
+use Rattle.text.proofs.Behind.{none}
 use Rattle.answers.proofs.write.write_carried.Statement.{statement}
 use Rattle.answers.proofs.write.write_carried.Tie as tie
 

@@ -2,7 +2,7 @@
 use borrow.Author.Needs.{needs}
 use mathlib.Core.List.{[], _∷_}
 use Rattle.text.specs.Writing.{numberText}
-use Rattle.answers.proofs.Behind.{one, behind}
+use Rattle.text.proofs.Behind.{one, behind}
 use Rattle.answers.proofs.write.write_number_word.Statement.{statement}
 use Rattle.answers.proofs.write.write_number_word.Tie as tie
 

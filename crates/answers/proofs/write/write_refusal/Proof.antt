@@ -3,7 +3,7 @@ use borrow.Author.Needs.{needs}
 use mathlib.Core.List.{[], _∷_, _++_}
 use Rattle.registry.specs.Answers.{carriedBy}
 use Rattle.answers.specs.Texts.{numberWord, carriedTexts}
-use Rattle.answers.proofs.Behind.{one, behind}
+use Rattle.text.proofs.Behind.{one, behind}
 use Rattle.answers.proofs.write.write_refusal.Statement.{statement}
 use Rattle.answers.proofs.write.write_refusal.Tie as tie
 

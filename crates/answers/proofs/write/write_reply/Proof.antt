@@ -1,6 +1,6 @@
 -- `answers::write::write_reply` meets its contract, by the case of the reply. Assumes nothing.
 use borrow.Author.Needs.{needs}
-use Rattle.answers.proofs.Behind.{one}
+use Rattle.text.proofs.Behind.{one}
 use Rattle.answers.proofs.write.write_reply.Statement.{statement}
 use Rattle.answers.proofs.write.write_reply.Tie as tie
 

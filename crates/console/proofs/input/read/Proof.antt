@@ -1,4 +1,4 @@
--- `input::read` is safe and ends.
+-- `input::read` meets its contract: a count of bytes that came is at most the length of the buffer, which stays as it is.
 use lib.ListN.{length}
 use borrow.Author.Needs.{needs}
 use mathlib.Core.Path.{_≡_}

@@ -1,68 +1,55 @@
--- `tree::put_below` is safe and ends.
-use Prim.Native.Nat.{_≤_, _-_}
+-- `tree::put_below` meets its contract. The loop's invariant: behind what is written, the lines that are left of the walk come.
+use Prim.Native.Nat.{ℕ, _≤_}
+use mathlib.Core.Path.{_≡_, refl, ap, _∙_}
+use mathlib.Core.List.{List}
+use native.Mathlib.Omega.{arith}
 use lib.ListN.{length}
 use borrow.Author.Needs.{needs}
-use mathlib.Core.Path.{_≡_}
+use Rattle.text.specs.Writing.{writtenAll}
+use Rattle.registry.specs.Tree.{Tree}
+use Rattle.registry.specs.Store.{treeOf}
+use Rattle.registry.specs.Calls.{storeOf}
+use Rattle.console.specs.Tree.{below, joinedLines}
+use Rattle.console.specs.Walk.{leftOf, turnsLeft}
+use Rattle.console.proofs.EdgesFrom.{fewer}
+use Rattle.console.proofs.LinesLeft.{left-start, left-none}
 use Rattle.console.proofs.tree.put_below.Statement.{statement}
 use Rattle.console.proofs.tree.put_below.Tie as tie
 
 abbrev Inv-loop : tie.InvT-loop
-Inv-loop out₀ at table root walk₀ to₀ turns₀ out walk to turns = (length out ≡ length out₀) × (turns ≤ 512)
+Inv-loop head instants poses root out₀ at walk₀ out walk = let t = treeOf (storeOf head instants poses) in (length out ≡ length out₀) × (walk .level ≤ 256) × (writtenAll out (walk .at) (joinedLines (leftOf t walk)) ≡ writtenAll out₀ at (joinedLines (below 256 t 1 root)))
 
 abbrev μ-loop : tie.MeasureT-loop
-μ-loop out₀ at table root walk₀ to₀ turns₀ out walk to turns = 512 - turns
+μ-loop head instants poses root out₀ at walk₀ out walk = turnsLeft (treeOf (storeOf head instants poses)) walk
+
+abbrev tree : tie.Start Inv-loop μ-loop → Tree
+tree s = treeOf (storeOf (s .args .head .now) (s .args .instants .now) (s .args .poses .now))
 
 loop-holds : tie.Need-loop-holds Inv-loop μ-loop
-loop-holds c = search needs
+loop-holds c =
+    let s = c .before .before .before .before in
+    (refl, omega arith, ap (λ (ls : List (List (List ℕ))). writtenAll (s .args .out .now) (s .args .at) (joinedLines ls)) (left-start (tree s) (s .args .root)))
 
-mul-loop : tie.Need-mul-loop Inv-loop μ-loop
-mul-loop c = search needs
+turn-requires : tie.Need-turn-requires Inv-loop μ-loop
+turn-requires c κs = search needs
 
-under-requires : tie.Need-under-requires Inv-loop μ-loop
-under-requires c κs = search needs
+loop-less : tie.Need-loop-less Inv-loop μ-loop
+loop-less c = c .before .before .turn .ensures .fewer
 
-put-found-requires : tie.Need-put-found-requires Inv-loop μ-loop
-put-found-requires c κs = search needs
-
-next-requires : tie.Need-next-requires Inv-loop μ-loop
-next-requires c κs = search needs
+loop-again : tie.Need-loop-again Inv-loop μ-loop
+loop-again c =
+    let e = c .before .before .turn .ensures in
+    (search needs, e .within, e .same ∙ c .before .before .before .before .before .before .loop .inv .2)
 
 same-length : tie.Need-same-length Inv-loop μ-loop
 same-length c = search needs
 
 returns : tie.Need-returns Inv-loop μ-loop
-returns c = search needs
-
-add-turns : tie.Need-add-turns Inv-loop μ-loop
-add-turns c = search needs
-
-loop-less : tie.Need-loop-less Inv-loop μ-loop
-loop-less c = search needs
-
-loop-again : tie.Need-loop-again Inv-loop μ-loop
-loop-again c = search needs
-
-same-length-2 : tie.Need-same-length-2 Inv-loop μ-loop
-same-length-2 c = search needs
-
-returns-2 : tie.Need-returns-2 Inv-loop μ-loop
-returns-2 c = search needs
+returns c =
+    let p = c .before .before in
+    left-none (tree (p .before .before .before .before .before)) (p .loop .out) (p .loop .walk) (omega arith) ∙ p .loop .inv .2
 
 pub put-below-spec : {M : Type 1} → statement M
 put-below-spec =
     tie.close
-    (tie.spec
-    Inv-loop
-    μ-loop
-    loop-holds
-    mul-loop
-    under-requires
-    put-found-requires
-    next-requires
-    same-length
-    returns
-    add-turns
-    loop-less
-    loop-again
-    same-length-2
-    returns-2)
+    (tie.spec Inv-loop μ-loop loop-holds turn-requires loop-less loop-again same-length returns)

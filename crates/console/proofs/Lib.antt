@@ -1,0 +1,13 @@
+pub mod Decimals
+pub mod Scaling
+pub mod Replies
+pub mod Rounding
+pub mod OwnEdge
+pub mod Lines
+pub mod ClimbLines
+pub mod PathReplies
+pub mod EdgesFrom
+pub mod Told
+pub mod EdgesUnder
+pub mod LinesLeft
+pub mod Roots

@@ -1,0 +1,42 @@
+-- `dot::put_head` meets its contract.
+use Rattle.text.proofs.Behind.{one, first}
+use borrow.Author.Needs.{needs}
+use Rattle.console.proofs.dot.put_head.Statement.{statement}
+use Rattle.console.proofs.dot.put_head.Tie as tie
+
+slice-aggregate-write-bytes : tie.Need-slice-aggregate-write-bytes
+slice-aggregate-write-bytes c = search needs
+
+write-bytes-requires : tie.Need-write-bytes-requires
+write-bytes-requires c κs = search needs
+
+slice-aggregate-write-bytes-2 : tie.Need-slice-aggregate-write-bytes-2
+slice-aggregate-write-bytes-2 c = search needs
+
+write-bytes-requires-2 : tie.Need-write-bytes-requires-2
+write-bytes-requires-2 c κs = search needs
+
+slice-aggregate-write-bytes-3 : tie.Need-slice-aggregate-write-bytes-3
+slice-aggregate-write-bytes-3 c = search needs
+
+write-bytes-requires-3 : tie.Need-write-bytes-requires-3
+write-bytes-requires-3 c κs = search needs
+
+same-length : tie.Need-same-length
+same-length c = search needs
+
+returns : tie.Need-returns
+returns c = first _ _ _ _ _ _ _ (c .before .before .before .before .before .before .before .before .before .before .before .before .write-bytes .ensures) (first _ _ _ _ _ _ _ (c .before .before .before .before .before .before .before .write-bytes2 .ensures) (one _ _ _ _ (c .before .before .write-bytes3 .ensures)))
+
+pub put-head-spec : {M : Type 1} → statement M
+put-head-spec =
+    tie.close
+    (tie.spec
+    slice-aggregate-write-bytes
+    write-bytes-requires
+    slice-aggregate-write-bytes-2
+    write-bytes-requires-2
+    slice-aggregate-write-bytes-3
+    write-bytes-requires-3
+    same-length
+    returns)

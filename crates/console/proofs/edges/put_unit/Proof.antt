@@ -1,0 +1,42 @@
+-- `edges::put_unit` meets its contract.
+use borrow.Author.Needs.{needs}
+use borrow.Author.Tests.{eq-eqb, ne-eqb}
+use Rattle.console.proofs.edges.put_unit.Statement.{statement}
+use Rattle.console.proofs.edges.put_unit.Tie as tie
+
+slice-aggregate-write-bytes : tie.Need-slice-aggregate-write-bytes
+slice-aggregate-write-bytes c = search needs
+
+write-bytes-requires : tie.Need-write-bytes-requires
+write-bytes-requires c κs = search needs
+
+same-length : tie.Need-same-length
+same-length c = search needs
+
+returns : tie.Need-returns
+returns c = rw (eq-eqb _ 1 (c .before .before .before .before .before .if1 .taken)) (c .before .before .write-bytes .ensures)
+
+slice-aggregate-write-bytes-2 : tie.Need-slice-aggregate-write-bytes-2
+slice-aggregate-write-bytes-2 c = search needs
+
+write-bytes-requires-2 : tie.Need-write-bytes-requires-2
+write-bytes-requires-2 c κs = search needs
+
+same-length-2 : tie.Need-same-length-2
+same-length-2 c = search needs
+
+returns-2 : tie.Need-returns-2
+returns-2 c = rw (ne-eqb _ 1 (c .before .before .before .before .before .if1 .left)) (c .before .before .write-bytes2 .ensures)
+
+pub put-unit-spec : {M : Type 1} → statement M
+put-unit-spec =
+    tie.close
+    (tie.spec
+    slice-aggregate-write-bytes
+    write-bytes-requires
+    same-length
+    returns
+    slice-aggregate-write-bytes-2
+    write-bytes-requires-2
+    same-length-2
+    returns-2)

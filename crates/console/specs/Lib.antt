@@ -1,0 +1,9 @@
+pub mod Figures
+pub mod Refusals
+pub mod Show
+pub mod Edges
+pub mod Dot
+pub mod Tree
+pub mod Walk
+pub mod Why
+pub mod Lines
