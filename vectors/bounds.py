@@ -9,6 +9,7 @@ from decimals import LIKE_DECIMALS, NOT_TAKEN, TAKEN, equal
 from lines import wrong_lines
 from map_scenes import longest_file, most_names, tight_map
 from model import Model
+from people_scenes import asked, deep, figures, long_row, told
 from scenes import Tree, inv, leaf
 from values import LAST, Values, line
 
@@ -54,8 +55,13 @@ class Script:
     def calls(self, tree, most):
         """Calls of each kind; the answers."""
         kinds = [lambda: tree.sample(self.rng.choice(list(tree.above))), tree.wipe, tree.question, tree.question]
-        kinds += [lambda: line("lookup", 7, 7, 7), lambda: "load"]
+        kinds += [lambda: line("lookup", 7, 7, 7), lambda: "load", lambda: asked(tree), lambda: asked(tree)]
         return [self.say(kind()) for kind in self.rng.sample(kinds, self.rng.randint(2, most))]
+
+
+def refused(answer, number):
+    """Whether a call is answered with this refusal, in its number or, for people, in words."""
+    return answer == f"no {number}" or f"refused with {number}: " in answer
 
 
 # Sizes that bind
@@ -75,6 +81,8 @@ def tight(script):
         script.say(tree.sample(rng.choice(list(tree.above))) if rng.random() < 0.5 else tree.any())
         if rng.random() < 0.25 / most:
             script.say("words")
+        if rng.random() < 0.05:
+            script.say(asked(tree))
 
 
 def openings(script):
@@ -86,6 +94,7 @@ def openings(script):
     for e, s in rng.sample(wrong, 4) + rng.sample(beyond, 2) + rng.sample(sizes, 1):
         script.say("open", e, s, rng.choice(["none", 0, 7, LAST]))
         script.say("lookup", 1, 1, 0)
+        script.say(rng.choice(["show 1 1 0", "why 1 1 0", "why 1 2 0", "tree", "dot"]))
     script.say("add", 2, 1, 0, 0, *script.values.said(script.values.pose()))
     script.say("open", 2, 1, "none")
 
@@ -118,15 +127,15 @@ def five_rows(script, age=None):
 def every_rule(script, age=None):
     """Each rule broken once, called upon and put back."""
     tree = five_rows(script, age)
-    for no, ways in (("no 2", rules.broken), ("no 1", rules.wrong_sizes)):
+    for number, ways in ((2, rules.broken), (1, rules.wrong_sizes)):
         for name, changes in script.ways(ways):
             script.note(name)
             back = script.set(changes)
-            assert set(script.calls(tree, 3)) == {no}, name
+            assert all(refused(answer, number) for answer in script.calls(tree, 3)), name
             if script.rng.random() < 0.5:
                 script.say("words")
             script.set(back)
-            assert script.say("common", *script.rng.sample(tree.frames, 2)) != no, name
+            assert script.say("common", *script.rng.sample(tree.frames, 2)) != f"no {number}", name
     script.say("words")
 
 
@@ -238,7 +247,7 @@ def malformed(script, most=30):
     tree = five_rows(script)
     good = [tree.any() for _ in range(4)] + [leaf(script.values), inv(script.values), "words", "lend 25 15 105"]
     good += ["set head 4 0", "set poses 3 3ff0000000000000", "open 2 2 none", "open 2 2 5"]
-    good += ["map none", "map 46524d", "load", "frame 61ff", "name 1"]
+    good += ["map none", "map 46524d", "load", "frame 61ff", "name 1", "tree", "dot", "show 1 2 3", "why 1 2 3"]
     for text in wrong_lines(rng, good)[:most]:
         script.say(text)
         if rng.random() < 0.2:
@@ -251,8 +260,8 @@ def unlent(script):
     """Before the first opening nothing is lent, and an empty file."""
     tree = Tree(script.values, 3)
     script.say("words")
-    script.say_all(["load", "frame", "frame 61", "name 0"])
-    script.calls(tree, 6)
+    script.say_all(["load", "frame", "frame 61", "name 0", "show 0 1 0", "show 1 1 0", "why 0 1 0", "tree", "dot"])
+    script.calls(tree, 8)
     for text in ("set head 0 1", "set instants 0 0", "set poses 0 0000000000000000", "open 0 1 none", "words"):
         script.say(text)
     script.say("lend", 5, 0, 0)
@@ -262,7 +271,8 @@ def unlent(script):
     script.calls(tree, 5)
     script.set([("head", 0, 2), ("head", 1, 2)])
     script.say_all(["load", "map 46524d01000000", "load", "frame", "frame 61", "name 0"])
-    script.calls(tree, 6)
+    script.say_all(["show 0 1 0", "show 1 1 0", "why 0 1 0", "why 1 1 0", "tree", "dot"])
+    script.calls(tree, 8)
     script.say("words")
 
 
@@ -280,9 +290,14 @@ def scenes(rng):
         most_names,
         longest_file,
         *10 * [tight_map],
+        partial(deep, shape="chain"),
+        *3 * [figures],
+        *6 * [told],
     ]
     kinds = [tight, some_rules, any_words, lengths, by_hand, malformed, openings, fitting, every_rule, tight_map]
     weights = [30, 8, 4, 4, 3, 2, 0.4, 0.2, 0.3, 9]
+    kinds += [told, figures, long_row, deep]
+    weights += [12, 3, 0.3, 0.4]
     while True:
         kind = first.pop(0) if first else rng.choices(kinds, weights)[0]
         kind(script)

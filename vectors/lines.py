@@ -33,11 +33,21 @@ def wrong_lines(rng, good):
         "frame 61 62", "frame none", "frame " + 241 * "61", "frame " + 240 * "61", "frame  61", "name", "name ",
         "name -1", "name +1", "name a", "name 0x1", "name 1 2", "name none", f"name {2**32}", f"name {2**64}",
         f"name {2**32 - 1}", "name 1.0", "name  1", "names 1",
+        "show", "show ", "show 1", "show 1 2", "show 1 2 ", "show 1 2 3 4", "show  1 2 3", "show 1  2 3", " show 1 2 3",
+        "show 1 2 none", "show 1 2 -3", "show 1 2 0.5", "show 1 2 +3", "show a 2 3", "show 1 b 3", "Show 1 2 3",
+        f"show {2**32} 1 0", f"show 1 {2**32} 0", f"show 1 2 {2**64}", f"show {2**32 - 1} {2**32 - 1} {LAST}",
+        "shows 1 2 3", "show\t1 2 3", "show 1,2,3", "show tree", "why", "why ", "why 1", "why 1 2", "why 1 2 none",
+        "why 1 2 3 4", "why 1 2 3 ", "why  1 2 3", "why -1 2 3", "why 1 0x2 3", "WHY 1 2 3", "why? 1 2 3",
+        f"why {2**32} 1 0", f"why 1 {2**32} 0", f"why 1 2 {2**64}", f"why {2**32 - 1} {2**32 - 1} {LAST}",
+        "tree", "tree ", "tree 1", " tree", "tree none", "Tree", "trees", "tree\t", "tree dot",
+        "dot", "dot ", "dot 1", " dot", "dot none", "Dot", "dots", "dot.",
         "#", "# " + "n" * 510, "# " + "n" * 511, "#" * 5000, "",
         "x" * 512, "x" * 513, "x" * 1024, "x" * 5000, "x" * 512 + "sqrt " + f,
     ]  # fmt: skip
     for size in (511, 512, 513, 514):  # leading zeros make a line of any length
         fixed += ["common " + "1 2".rjust(size - 7, "0"), "lookup " + "7 7 0".rjust(size - 7, "0")]
+        fixed += ["show " + "7 7 0".rjust(size - 5, "0"), "why " + "1 2".rjust(size - 6, "0") + " 3"]
+        fixed += ["dot ".ljust(size), "tree".ljust(size, "e")]
         fixed += ["name " + "1".rjust(size - 5, "0"), "sqrt " + "4".rjust(size - 5, "0"), "sqrt 4e".ljust(size, "0")]
     fixed += ["sqrt " + f + " " * (size - 21) for size in (512, 513)]
     for _ in range(40):

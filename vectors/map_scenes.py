@@ -272,8 +272,8 @@ def tight_map(script):
         if rng.random() < 0.1:
             script.say(plan.added())
         script.say("load")
-        if rng.random() < 0.3:
-            script.say("words")
+        if rng.random() < 0.4:
+            script.say(rng.choice(["words", "words", "words", "tree", "dot"]))
         script.say_all([plan.any() for _ in range(rng.randrange(5))])
         if rng.random() < 0.3:
             broken(script)

@@ -1,6 +1,8 @@
 #!/usr/bin/env python3
 """Answers the text protocol on standard input as documents 01 and 02 say, without the Rust and the product.
 
+What is answered to people (people.py) is in the words of docs/PROTOCOL.md.
+
 `model.py --strict` writes the words and reads them again, with both tests, in every call.
 """
 import re
@@ -9,6 +11,7 @@ import sys
 from fractions import Fraction
 
 import maps
+import people
 import poses
 from poses import Refusal
 from store import HEAD, INSTANTS, POSES, Store
@@ -27,6 +30,7 @@ FORMS = {
     "mul": 14 * "d", "inv": 7 * "d", "interp": 14 * "d" + "nnn",
     "sqrt": "d", "acos": "d", "sin": "d", "words": "", "set": "snw", "lend": "nnn",
     "map": "m", "load": "", "frame": "b", "name": "f",
+    "show": "ffn", "why": "ffn", "tree": "", "dot": "",
 }  # fmt: skip
 BELOW = {"f": 2**32, "n": 2**64, "k": 2, "a": 2**64}
 
@@ -83,18 +87,23 @@ def read_word(form, word, before):
     return number(word, BELOW[form])
 
 
-def show_bits(word):
+def write_bits(word):
     return "nan" if word & (2**63 - 1) > 0x7FF << 52 else f"{word:016x}"
 
 
-def show(value):
+def write(value):
     if isinstance(value, float):
-        return show_bits(struct.unpack("<Q", struct.pack("<d", value))[0])
+        return write_bits(struct.unpack("<Q", struct.pack("<d", value))[0])
     return str(value)
 
 
-def show_refusal(refusal):
-    return "no " + " ".join(map(show, refusal.args))
+def write_refusal(refusal):
+    return "no " + " ".join(map(write, refusal.args))
+
+
+def block(lines):
+    """An answer for people: its lines and an empty one."""
+    return "\n".join([*lines, ""])
 
 
 class Model:
@@ -119,7 +128,7 @@ class Model:
         except Malformed:
             return "malformed"
         except Refusal as refusal:
-            return show_refusal(refusal)
+            return write_refusal(refusal)
 
     def open(self, e, s, age):
         if e in range(1, 257) and s in range(1, 1025) and e * s > INSTANTS:
@@ -143,7 +152,7 @@ class Model:
         return "static" if at is None else f"at {at}"
 
     def pose(self, pose):
-        return "pose " + " ".join(map(show, pose))
+        return "pose " + " ".join(map(write, pose))
 
     def mul(self, *floats):
         return self.pose(poses.product(floats[:7], floats[7:]))
@@ -155,17 +164,17 @@ class Model:
         return self.pose(poses.interpolate(taken[:7], taken[7:14], *taken[14:]))
 
     def sqrt(self, value):
-        return "float " + show(poses.root(value))
+        return "float " + write(poses.root(value))
 
     def acos(self, value):
-        return "float " + show(poses.acos(value))
+        return "float " + write(poses.acos(value))
 
     def sin(self, value):
-        return "float " + show(poses.sin(value))
+        return "float " + write(poses.sin(value))
 
     def words(self):
         head, instants, floats = self.store.words()
-        lines = ("head", *map(str, head)), ("instants", *map(str, instants)), ("poses", *map(show_bits, floats))
+        lines = ("head", *map(str, head)), ("instants", *map(str, instants)), ("poses", *map(write_bits, floats))
         return "\n".join(map(" ".join, lines))
 
     def set(self, name, place, word):
@@ -194,7 +203,7 @@ class Model:
         if refused is None:
             return "done"
         record, refusal = refused
-        return f"record {record} {show_refusal(refusal)}"
+        return f"record {record} {write_refusal(refusal)}"
 
     def frame(self, name=b""):
         frame = maps.frame_of(self.file, name)
@@ -203,6 +212,18 @@ class Model:
     def name(self, frame):
         name = maps.name_of(self.file, frame)
         return "none" if name is None else f"name {name.hex()}"
+
+    def show(self, *lookup):
+        return block(people.show(self.store, *lookup))
+
+    def why(self, *lookup):
+        return block(people.why(self.store, *lookup))
+
+    def tree(self):
+        return block(people.tree(self.store))
+
+    def dot(self):
+        return block(people.dot(self.store))
 
 
 def main():
