@@ -231,7 +231,7 @@ module _ (n : ℕ) (ts : List ℕ) (fs : List Float) (row : Row n ts fs) (fit : 
     kept-row : Row r us gs
     kept-row =
         let rises : Rising all-of = rising-held n ts fs (row-held n ts fs row) in
-        rw (count-is, us-are, gs-are) (words-row (length ts) kept-of kept-fits (rising-keep (leb since) all-of rises))
+        rw (count-is, us-are, gs-are) (words-row (length ts) kept-of (row .bounded) kept-fits (rising-keep (leb since) all-of rises))
 
     -- the sample is too old itself
     left-out : t < since → outcome (answer r) us gs ≡ insertRow age t p n ts fs

@@ -68,8 +68,9 @@ words-unused capacity m =
     (all-replicate (eqb 0) (capacity - length (keys m)) 0 refl)
     (all-replicate isZero (7 * capacity - length (posesOf m)) zero64 is-zero64))
 
-pub words-row : (capacity : ℕ) (m : Samples) → length m ≤ capacity → Rising m → Row (length m) (instantWords capacity m) (poseWords capacity m)
-words-row capacity m h r = record {
+pub words-row : (capacity : ℕ) (m : Samples) → capacity ≤ 1024 → length m ≤ capacity → Rising m → Row (length m) (instantWords capacity m) (poseWords capacity m)
+words-row capacity m b h r = record {
+  bounded = rw (length-instantWords capacity m h) b;
   fits = rw (length-instantWords capacity m h) h;
   sevens = rw (length-instantWords capacity m h, length-poseWords capacity m h);
   rises = rw (read-back capacity m) (rising-is m .1 r);

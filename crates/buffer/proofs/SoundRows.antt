@@ -127,8 +127,9 @@ words-sound age capacity kind m s =
     })
 
 -- a sound row is what this layer asks for, and the words of its samples
-pub sound-row : (age : Option ℕ) (kind : Kind) (count : ℕ) (ts : List ℕ) (fs : List Float) → RowSound age kind count ts fs → length fs ≡ 7 * length ts → Row count ts fs
-sound-row age kind count ts fs s l = record {
+pub sound-row : (age : Option ℕ) (kind : Kind) (count : ℕ) (ts : List ℕ) (fs : List Float) → RowSound age kind count ts fs → length ts ≤ 1024 → length fs ≡ 7 * length ts → Row count ts fs
+sound-row age kind count ts fs s b l = record {
+  bounded = b;
   fits = s .fits;
   sevens = l;
   rises = rising-is (samplesOf count ts fs) .1 (s .samples .rises);

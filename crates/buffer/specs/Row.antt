@@ -95,8 +95,9 @@ FloatsFit l = (i : ℕ) → T (fits binary64 (getD l i nan))
 
 -- ---- what the calls on a row leave
 
--- what this layer asks of its caller: lengths S and 7 x S, the held samples rising, zeros after them
+-- what this layer asks of its caller: lengths S and 7 x S, S at most 1,024, the held samples rising, zeros after them
 pub record Row (count : ℕ) (instants : List ℕ) (poses : List Float) : Type 0 where
+  pub bounded : length instants ≤ 1024
   pub fits : count ≤ length instants
   pub sevens : length poses ≡ 7 * length instants
   pub rises : rising (samplesOf count instants poses) ≡ true

@@ -43,7 +43,7 @@ pub fn get(instants: &[u64], poses: &[f64], kind: Kind, count: usize, t: u64) ->
     if let Kind::Static = kind {
         return Got::Pose(pose::read_pose(poses, 0));
     }
-    let at = place::place(instants, count, t);
+    let at = place::place(instants, count as u16, t) as usize;
     let last = count - 1;
     if at == count {
         return Got::OutOfRange {

@@ -56,7 +56,7 @@ fn put(instants: &mut [u64], poses: &mut [f64], count: usize, t: u64, pose: Isom
     ensures { λ r. ⌜ outcome (insertedReply r) (now (instants .exit)) (now (poses .exit))
         ≡ insertRow none t pose count (now (instants .entry)) (now (poses .entry)) ⌝ }
 {
-    let at = place::place(instants, count, t);
+    let at = place::place(instants, count as u16, t) as usize;
     if at < count {
         if instants[at] == t {
             pose::write_pose(poses, at, pose);

@@ -21,7 +21,7 @@ pub fn remove_before(
     if let Kind::Static = kind {
         return count;
     }
-    let dropped = place::place(instants, count, t);
+    let dropped = place::place(instants, count as u16, t) as usize;
     if dropped == 0 {
         return count;
     }

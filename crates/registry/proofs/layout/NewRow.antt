@@ -92,7 +92,8 @@ module _ (s : Store) (ok : SoundStore s) (fit : FloatsFit (s .poses)) (k child p
   within = rw length-is (let u = absent .used in omega arith)
 
   pub new-asked : StoredRow k (withRow k (emptyRow child parent kind) s)
-  new-asked = rw row-stored (stored-row (limitsOf s) withEmpty tree-fits-in tree-rises-in k within (rw row-is tt))
+  unfolding limitsOf
+  new-asked = rw row-stored (stored-row (limitsOf s) withEmpty (sized-is s .0 (ok .sizes) .range .boundedCapacity) tree-fits-in tree-rises-in k within (rw row-is tt))
 
   -- the limits, the tree and the row are read back
   pub empty-limits : limitsOf (stored (limitsOf s) withEmpty) ≡ limitsOf s

@@ -35,7 +35,7 @@ sound-held s ok fit r l = record {
 
 -- ---- the words of a tree that fits them
 
-module _ (L : Limits) (t : Tree) (fits : Fits L t) (rises : Rising t) (r : ℕ) (l : r < length t) where
+module _ (L : Limits) (t : Tree) (bounded : L .capacity ≤ 1024) (fits : Fits L t) (rises : Rising t) (r : ℕ) (l : r < length t) where
   part : RowPart r (stored L t)
   unfolding stored encode
   part =
@@ -49,7 +49,7 @@ module _ (L : Limits) (t : Tree) (fits : Fits L t) (rises : Rising t) (r : ℕ) 
   row : Rising (getD t r blank .1 .samples) → Row (countIn (stored L t) r) (rowInstants (stored L t) r) (rowPoses (stored L t) r)
   row s =
       rw (word-back L t fits r 3 l (omega arith), instants-back L t fits r l, poses-back L t fits r l)
-      (words-row (L .capacity) (getD t r blank .1 .samples) (leb-true _ _ (all-at (λ x. leb (length (x .1 .samples)) (L .capacity)) t blank .0 (fits .samples) r l)) s)
+      (words-row (L .capacity) (getD t r blank .1 .samples) bounded (leb-true _ _ (all-at (λ x. leb (length (x .1 .samples)) (L .capacity)) t blank .0 (fits .samples) r l)) s)
 
   pub stored-row : Rising (getD t r blank .1 .samples) → StoredRow r (stored L t)
   unfolding stored encode

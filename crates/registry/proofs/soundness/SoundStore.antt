@@ -17,6 +17,7 @@ use Rattle.registry.proofs.layout.SizeLaws.{Sizes, sizes-fit-is, sized-
 use Rattle.registry.proofs.soundness.Rules.{Rules, sound-is}
 use Rattle.registry.proofs.layout.StoreBack.{Fits, blank}
 use Rattle.registry.proofs.layout.RowLaws.{head-rises, seven-floats}
+use Rattle.registry.proofs.layout.RowParts.{instants-long}
 use Rattle.registry.proofs.layout.SizeTests.{used-part}
 use Rattle.registry.proofs.layout.StoreRows.{row-sound}
 use Rattle.registry.proofs.layout.SoundIsStored.{sound-tree}
@@ -47,7 +48,9 @@ module _ (s : Store) (ok : SoundStore s) where
   sound-part r l = used-part s r (sound-parts s ok) l
 
   pub sound-row-words : (r : ℕ) → r < usedIn s → Row (countIn s r) (rowInstants s r) (rowPoses s r)
-  sound-row-words r l = sound-row (ageIn s) (edgeAt s r .kind) (countIn s r) (rowInstants s r) (rowPoses s r) (row-sound s sizes rules r l) (seven-floats s r (sound-part r l))
+  sound-row-words r l =
+      sound-row (ageIn s) (edgeAt s r .kind) (countIn s r) (rowInstants s r) (rowPoses s r) (row-sound s sizes rules r l)
+      (rw (instants-long s r (sound-part r l)) (sizes .range .boundedCapacity)) (seven-floats s r (sound-part r l))
 
   pub tree-fits : Fits (limitsOf s) (treeOf s)
   unfolding limitsOf

@@ -62,20 +62,26 @@ returns-2 c child =
 enum-told-2 : tie.Need-enum-told-2
 enum-told-2 c = search needs
 
+cast-place : tie.Need-cast-place
+cast-place c = search needs
+
 place-requires : tie.Need-place-requires
-place-requires c κs = row-held _ _ _ (c .before .before .before .before .before .pre)
+place-requires c κs = (row-held _ _ _ (c .before .before .before .before .before .pre), omega arith)
+
+cast-at : tie.Need-cast-at
+cast-at c = search needs
 
 sub-last : tie.Need-sub-last
 sub-last c = search needs
 
-shared-slice-read-t12 : tie.Need-shared-slice-read-t12
-shared-slice-read-t12 c = search needs
+shared-slice-read-t14 : tie.Need-shared-slice-read-t14
+shared-slice-read-t14 c = search needs
 
-mul-t13 : tie.Need-mul-t13
-mul-t13 c = search needs
+mul-t15 : tie.Need-mul-t15
+mul-t15 c = search needs
 
-shared-slice-read-t15 : tie.Need-shared-slice-read-t15
-shared-slice-read-t15 c = search needs
+shared-slice-read-t17 : tie.Need-shared-slice-read-t17
+shared-slice-read-t17 c = search needs
 
 returns-3 : tie.Need-returns-3
 returns-3 c child =
@@ -97,14 +103,14 @@ returns-4 c child =
     let p = i .before in
     rw (is-moving p, c .read-pose2 .ensures) (sym (exact (start p .args .count) (start p .args .instants .now) (start p .args .poses .now) (start p .pre) (start p .args .t) (p .place .result) (p .place .ensures) child (inside i) (c .before .if3 .taken)))
 
-shared-slice-read-t21 : tie.Need-shared-slice-read-t21
-shared-slice-read-t21 c = search needs
+shared-slice-read-t23 : tie.Need-shared-slice-read-t23
+shared-slice-read-t23 c = search needs
 
-mul-t22 : tie.Need-mul-t22
-mul-t22 c = search needs
+mul-t24 : tie.Need-mul-t24
+mul-t24 c = search needs
 
-shared-slice-read-t24 : tie.Need-shared-slice-read-t24
-shared-slice-read-t24 c = search needs
+shared-slice-read-t26 : tie.Need-shared-slice-read-t26
+shared-slice-read-t26 c = search needs
 
 returns-5 : tie.Need-returns-5
 returns-5 c child =
@@ -144,19 +150,21 @@ get-spec =
     read-pose-requires
     returns-2
     enum-told-2
+    cast-place
     place-requires
+    cast-at
     sub-last
-    shared-slice-read-t12
-    mul-t13
-    shared-slice-read-t15
+    shared-slice-read-t14
+    mul-t15
+    shared-slice-read-t17
     returns-3
     mul-if3
     shared-slice-read-if3
     read-pose-requires-2
     returns-4
-    shared-slice-read-t21
-    mul-t22
-    shared-slice-read-t24
+    shared-slice-read-t23
+    mul-t24
+    shared-slice-read-t26
     returns-5
     between-requires
     enum-known-served

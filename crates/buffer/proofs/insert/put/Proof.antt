@@ -23,8 +23,14 @@ within p = place-le (start p .args .count) (start p .args .instants .now) (row-h
 new : (c : tie.Joined1) → c .before .place .result < start (c .before) .args .count → getD (start (c .before) .args .instants .now) (c .before .place .result) 0 ≡ start (c .before) .args .t → ⊥
 new c h e = ⊎-elim (λ v. v .2 .left e) (λ v. absurd (omega (arith, v .left))) (c .if1 .came)
 
+cast-place : tie.Need-cast-place
+cast-place c = search needs
+
 place-requires : tie.Need-place-requires
-place-requires c κs = row-held _ _ _ (c .before .before .before .pre)
+place-requires c κs = (row-held _ _ _ (c .before .before .before .pre), omega arith)
+
+cast-at : tie.Need-cast-at
+cast-at c = search needs
 
 mul-if2 : tie.Need-mul-if2
 mul-if2 c = search needs
@@ -63,8 +69,8 @@ insert-word-requires c κs = omega (arith, within (c .before .before .before), s
 insert-pose-requires : tie.Need-insert-pose-requires
 insert-pose-requires c κs = omega (arith, within (c .before .before .before .before .before .before .before), start (c .before .before .before .before .before .before .before) .pre .fits, start (c .before .before .before .before .before .before .before) .pre .sevens, c .before .before .before .before .before .if3 .left)
 
-add-t17 : tie.Need-add-t17
-add-t17 c = search needs
+add-t19 : tie.Need-add-t19
+add-t19 c = search needs
 
 same-length-4 : tie.Need-same-length-4
 same-length-4 c = search needs
@@ -83,7 +89,9 @@ pub put-spec : {M : Type 1} → statement M
 put-spec =
     tie.close
     (tie.spec
+    cast-place
     place-requires
+    cast-at
     mul-if2
     slice-read-if2
     write-pose-requires
@@ -94,7 +102,7 @@ put-spec =
     returns-2
     insert-word-requires
     insert-pose-requires
-    add-t17
+    add-t19
     same-length-4
     same-length-5
     returns-3)

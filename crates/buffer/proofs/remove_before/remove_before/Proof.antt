@@ -32,8 +32,14 @@ returns c =
 enum-told-2 : tie.Need-enum-told-2
 enum-told-2 c = search needs
 
+cast-place : tie.Need-cast-place
+cast-place c = search needs
+
 place-requires : tie.Need-place-requires
-place-requires c κs = row-held _ _ _ (c .before .before .before .before .before .pre)
+place-requires c κs = (row-held _ _ _ (c .before .before .before .before .before .pre), omega arith)
+
+cast-dropped : tie.Need-cast-dropped
+cast-dropped c = search needs
 
 same-length : tie.Need-same-length
 same-length c = search needs
@@ -78,7 +84,9 @@ remove-before-spec =
     enum-told
     returns
     enum-told-2
+    cast-place
     place-requires
+    cast-dropped
     same-length
     returns-2
     remove-words-requires
