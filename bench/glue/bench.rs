@@ -1,6 +1,7 @@
 //! Glue for the bench: the private names that it measures, as public ones.
 use crate::{
     Registry, Transform,
+    core::{Buffer, buffer::GetError},
     geometry::{Quaternion, Vector3, transform::Isometry},
     time::{Stamp, Timestamp},
 };
@@ -28,6 +29,24 @@ pub fn transform(child: &str, parent: &str, instant: Option<u64>, pose: Floats) 
 
 pub fn floats_of(transform: &Transform<Timestamp>) -> Floats {
     floats(transform.isometry())
+}
+
+/// A child's buffer, to be asked by itself.
+pub struct Held<'a>(&'a Buffer<Timestamp>);
+
+pub fn held<'a>(registry: &'a Registry<Timestamp>, child: &str) -> Option<Held<'a>> {
+    registry.buffer(child).map(Held)
+}
+
+impl Held<'_> {
+    /// The pose, or the range outside which the instant is.
+    pub fn get(&self, instant: u64) -> Result<Floats, Option<(u64, u64)>> {
+        let range = |error: GetError<Timestamp>| match error {
+            GetError::OutOfRange { start, end } => Some((start.as_nanos(), end.as_nanos())),
+            _ => None,
+        };
+        self.0.get(Timestamp::from_nanos(instant)).map(floats).map_err(range)
+    }
 }
 
 pub fn wipe(registry: &mut Registry<Timestamp>, child: &str, before: u64) -> bool {

@@ -1,6 +1,10 @@
 
-// Glue for the bench, behind the oracle's: a copy of a whole registry, and of one child's buffer.
+// Glue for the bench, behind the oracle's: a child's buffer, a copy of it, and a copy of a whole registry.
 impl Registry<Timestamp> {
+    pub(crate) fn buffer(&self, child: &str) -> Option<&crate::core::Buffer<Timestamp>> {
+        self.data.get(child)
+    }
+
     pub fn copy(&self) -> Self {
         Self {
             data: self.data.iter().map(|(child, buffer)| (child.clone(), buffer.copy())).collect(),

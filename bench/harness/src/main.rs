@@ -8,6 +8,7 @@ mod newcomers;
 mod ours;
 mod pass;
 mod poses;
+mod row;
 mod same;
 mod scene;
 mod table;
@@ -16,7 +17,8 @@ mod targets;
 const SIZES: [(usize, usize); 3] = [(8, 16), (64, 64), (256, 1024)];
 
 fn store(rounds: usize, rows: usize, samples: usize) -> (String, Vec<table::Row>) {
-    let mut measured = lookups::rows(rounds, rows, samples);
+    let mut measured = row::rows(rounds, samples);
+    measured.extend(lookups::rows(rounds, rows, samples));
     measured.extend(changes::rows(rounds, rows, samples));
     measured.extend(newcomers::rows(rounds, rows, samples));
     (format!("{rows}x{samples}"), measured)
@@ -32,5 +34,6 @@ fn main() {
     print!("{}{}{}", targets::table(&leaves, &passes, &stores), table::leaves(&leaves), table::passes(&passes));
     for (size, rows) in &stores {
         print!("{}", table::calls(&format!("Store {size}"), rows));
-    }    print!("{}", table::maps(load, book, largest));
+    }
+    print!("{}", table::maps(load, book, largest));
 }

@@ -58,6 +58,7 @@ unsafe extern "C" {
     fn inner_add_transform(h: WordsMut, hn: N, i: WordsMut, n: N, p: FloatsMut, pn: N, child: u32, parent: u32, is_static: u32, instant: u64, pose: Pose) -> Answer;
     fn inner_get_transform(h: Words, hn: N, i: Words, n: N, p: Floats, pn: N, target: u32, source: u32, instant: u64) -> Answer;
     fn inner_latest_common_time(h: Words, hn: N, i: Words, n: N, p: Floats, pn: N, target: u32, source: u32) -> Answer;
+    fn inner_get(i: Words, n: N, p: Floats, pn: N, count: usize, instant: u64) -> Answer;
     fn inner_remove_before(h: WordsMut, hn: N, i: WordsMut, n: N, p: FloatsMut, pn: N, child: u32, instant: u64) -> Answer;
 
     pub safe fn transforms_mul(a: Pose, b: Pose) -> Pose;
@@ -138,6 +139,14 @@ impl Store {
     pub fn get(&self, calls: &Calls, target: u32, source: u32, instant: u64) -> Answer {
         let (h, i, p) = (&self.head, &self.instants, &self.poses);
         unsafe { (calls.get)(h.as_ptr(), h.len(), i.as_ptr(), i.len(), p.as_ptr(), p.len(), target, source, instant) }
+    }
+
+    /// A query on a moving row by itself.
+    pub fn get_in_row(&self, row: usize, instant: u64) -> Answer {
+        let (samples, count) = (self.head[1] as usize, self.head[5 + 4 * row + 3] as usize);
+        let (from, to) = (row * samples, (row + 1) * samples);
+        let (i, p) = (&self.instants[from..to], &self.poses[7 * from..7 * to]);
+        unsafe { inner_get(i.as_ptr(), i.len(), p.as_ptr(), p.len(), count, instant) }
     }
 
     pub fn common(&self, calls: &Calls, target: u32, source: u32) -> Answer {

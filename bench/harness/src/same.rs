@@ -43,6 +43,13 @@ pub fn same_lookup(ours: &Answer, rust: Result<Transform<Timestamp>, RegistryErr
     }
 }
 
+pub fn same_served(ours: &Answer, rust: Result<bench::Floats, Option<(u64, u64)>>) -> bool {
+    match rust {
+        Ok(pose) => ours.number == 0 && same_pose(ours.pose, pose),
+        Err(range) => ours.number == 11 && (ours.has_range == 1).then_some((ours.start, ours.end)) == range,
+    }
+}
+
 pub fn same_common(ours: &Answer, rust: Result<Stamp<Timestamp>, RegistryError<Timestamp>>) -> bool {
     match rust {
         Ok(Stamp::Static) => ours.number == 0 && ours.is_static == 1,
