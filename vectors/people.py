@@ -133,7 +133,7 @@ def why(store, target, source, instant):
         if refusal.args[0] in NO_PATH:
             return [first, last]
     rows = store.read()
-    up, down, met = ([], [], True) if target == source else store.path(target, source)
+    up, down, met = store.path(target, source)
     return [
         first,
         *climb(rows, "target", target, up, instant),

@@ -247,9 +247,9 @@ class Store:
 
     def lookup(self, target, source, instant):
         rows = self.read()
+        target_side, source_side, connected = self.path(target, source)
         if target == source:
             return IDENTITY
-        target_side, source_side, connected = self.path(target, source)
         hops = target_side + source_side
         poses = [rows[child].at(instant) for child in hops]
         if None in poses:
@@ -266,9 +266,9 @@ class Store:
     def common(self, target, source):
         """The latest common time, or None for static."""
         rows = self.read()
+        target_side, source_side, connected = self.path(target, source)
         if target == source:
             return None
-        target_side, source_side, connected = self.path(target, source)
         if not connected:
             raise Refusal(10)
         hops = [child for child in target_side + source_side if rows[child].kind == MOVING]

@@ -387,13 +387,18 @@ static void replaced_and_too_old(void)
     CHECK_HELD(0, 0, LATER);
 }
 
-/* One frame twice is answered even when it is unknown, after 1 and 2. */
+/* One frame twice is answered where it is known, a root, too; an unknown one is refused with 9, after 1 and 2. */
 static void one_frame_twice(void)
 {
+    static const uint32_t known[] = {ROOT, ARM, TOOL};
     const transforms_isometry identity = {{0, 0, 0}, {1, 0, 0, 0}};
     fill();
-    CHECK_ANSWER(transforms_get_transform(STORE, 91, 91, T(13)), .pose = identity);
-    CHECK_ANSWER(transforms_latest_common_time(STORE, 91, 91), .is_static = 1);
+    for (size_t i = 0; i < sizeof known / sizeof *known; i++) {
+        CHECK_ANSWER(transforms_get_transform(STORE, known[i], known[i], T(99)), .pose = identity);
+        CHECK_ANSWER(transforms_latest_common_time(STORE, known[i], known[i]), .is_static = 1);
+    }
+    CHECK_ANSWER(transforms_get_transform(STORE, 91, 91, T(13)), .number = TRANSFORMS_UNKNOWN_FRAME, .frame = 91);
+    CHECK_ANSWER(transforms_latest_common_time(STORE, 91, 91), .number = TRANSFORMS_UNKNOWN_FRAME, .frame = 91);
     head[2] = ROWS + 1;
     CHECK_ANSWER(transforms_get_transform(STORE, 91, 91, T(13)), .number = TRANSFORMS_UNSOUND_STORE);
     CHECK_ANSWER(transforms_latest_common_time(STORE, 91, 91), .number = TRANSFORMS_UNSOUND_STORE);

@@ -91,8 +91,8 @@ pub ask-fits : {R : ℕ → Carried → Bool} {Q : Value → Bool} (t : Tree) (f
     → Q same ≡ true → ((x : ℕ) → R 9 (frame x) ≡ true) → Fits R Q (askKnown t f g along apart) → Fits R Q (ask t f g same along apart)
 unfolding ask
 ask-fits t f g same along apart s unknown h =
-    on-cond (eqb f g) (answered s)
-    (on-refuse (not (known t f)) 9 (frame f) (unknown f) (on-refuse (not (known t g)) 9 (frame g) (unknown g) h))
+    on-refuse (not (known t f)) 9 (frame f) (unknown f)
+    (on-refuse (not (known t g)) 9 (frame g) (unknown g) (on-cond (eqb f g) (answered s) h))
 
 -- ---- lookup
 

@@ -4,6 +4,7 @@ pub mod CallsPathLaw
 pub mod Climbing
 pub mod ClimbingBoth
 pub mod EdgesOfRows
+pub mod KnownKept
 pub mod PathKept
 pub mod PathLaw
 pub mod Paths

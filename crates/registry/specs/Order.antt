@@ -61,10 +61,7 @@ abbrev pub AddFirstDue : Type 0
 AddFirstDue = (s : Store) (a : Addition)
     → refused (addOf s a .reply) ≡ firstDue (lentDue s (addDue (limitsOf s) (treeOf s) a)) (lent addOrder)
 
--- ---- of two frames that differ; the same frame twice is refused with nothing beyond 2
-
-abbrev pub ofTwo : ℕ → ℕ → Dues → Dues
-ofTwo target source dues = cond (eqb target source) [] dues
+-- ---- of two frames; of a known frame and itself nothing is due, its path being empty
 
 -- 9: "neither child nor parent; the frame", "target first"
 abbrev pub unknownDue : Tree → ℕ → ℕ → Option Carried
@@ -102,11 +99,10 @@ inverseOf (refusal k c) = []
 
 unfoldable pub lookupDue : Tree → ℕ → ℕ → ℕ → Dues
 lookupDue t target source i =
-    ofTwo target source
-    ((9, unknownDue t target source)
+    (9, unknownDue t target source)
     ∷ (10, apartDue t target source)
     ∷ (11, notServedDue (asked t target source) i)
-    ∷ inverseOf (fold none (hops t (side t target source)) i))
+    ∷ inverseOf (fold none (hops t (side t target source)) i)
 
 abbrev pub LookupFirstDue : Type 0
 LookupFirstDue = (s : Store) (target source i : ℕ)
@@ -141,11 +137,10 @@ noCommonDue hs = orElse (firstHop isEmpty hs) (firstHop (tooLate hs) hs)
 
 unfoldable pub commonTimeDue : Tree → ℕ → ℕ → Dues
 commonTimeDue t target source =
-    ofTwo target source
-    ((9, unknownDue t target source)
+    (9, unknownDue t target source)
     ∷ (10, apartDue t target source)
     ∷ (12, noCommonDue (path t target source))
-    ∷ [])
+    ∷ []
 
 abbrev pub CommonTimeFirstDue : Type 0
 CommonTimeFirstDue = (s : Store) (target source : ℕ)

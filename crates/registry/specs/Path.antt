@@ -68,13 +68,13 @@ isParent f (x ∷ t) = eqb (x .1 .parent) f || isParent f t
 abbrev pub known : Tree → ℕ → Bool
 known t f = not (isAbsent (get t f)) || isParent f t
 
--- One answer for a frame and itself, even when unknown; else 9, the target first; else what the two sides of the path give, or, without a path, what
--- the two climbs to the roots give.
+-- 9 for an unknown frame, the target first, so that "Equal names that are neither child nor parent get 9" (M-102); then one answer for a frame and
+-- itself; else what the two sides of the path give, or, without a path, what the two climbs to the roots give.
 unfoldable pub ask : Tree → ℕ → ℕ → Value → (List Hop → List Hop → Reply Value) → (List Hop → List Hop → Reply Value) → Reply Value
 ask t target source same along apart =
-    cond (eqb target source) (answer same)
-    (refuse (not (known t target)) 9 (frame target)
+    refuse (not (known t target)) 9 (frame target)
     (refuse (not (known t source)) 9 (frame source)
+    (cond (eqb target source) (answer same)
     (cond (connected t target source)
     (along (hops t (side t target source)) (hops t (side t source target)))
     (apart (hops t (chain t target)) (hops t (chain t source))))))

@@ -36,10 +36,20 @@ abbrev pub ClimbsMeet : Type 0
 ClimbsMeet = (t : Tree) → rising t ≡ true → noCircle t ≡ true → (f g : ℕ)
     → (connected t f g ≡ eqb (climbEnd t f g) (climbEnd t g f)) × (hops t (side t f g) ≡ hops t (until (eqb (climbEnd t f g)) (chain t f)))
 
--- ---- "The same frame twice gives identity, or Static, even when unknown"
+-- two known frames, or one twice
+pub record TwoKnown (t : Tree) (f g : ℕ) : Type 0 where
+  pub target : known t f ≡ true
+  pub source : known t g ≡ true
+
+-- Two frames that differ are known where there is a path. So the laws about "connected frames" that ask for known ones, too, leave out nothing but an
+-- unknown frame and itself: `connected` holds of these, and their path is empty.
+abbrev pub ConnectedAreKnown : Type 0
+ConnectedAreKnown = (t : Tree) (f g : ℕ) → (f ≡ g → ⊥) → connected t f g ≡ true → TwoKnown t f g
+
+-- ---- "The same frame twice gives identity, or Static", where it is known: "known ones keep identity and Static" (M-102)
 
 abbrev pub SameFrameAnswers : Type 0
-SameFrameAnswers = (t : Tree) (f : ℕ) → ((i : ℕ) → lookup t f f i ≡ answer (pose identity)) × (commonTime t f f ≡ answer static)
+SameFrameAnswers = (t : Tree) (f : ℕ) → known t f ≡ true → ((i : ℕ) → lookup t f f i ≡ answer (pose identity)) × (commonTime t f f ≡ answer static)
 
 -- ---- latest common time
 
@@ -66,7 +76,7 @@ pub record Greatest (i : ℕ) (hs : List Hop) : Type 0 where
 
 -- "latest common time is Static when every hop is static", and then alone
 abbrev pub CommonTimeStatic : Type 0
-CommonTimeStatic = (t : Tree) (f g : ℕ) → connected t f g ≡ true
+CommonTimeStatic = (t : Tree) (f g : ℕ) → TwoKnown t f g → connected t f g ≡ true
     → (commonTime t f g ≡ answer static) ↔ Every (λ h. h .1 .kind ≡ Static) (path t f g)
 
 -- "else, for connected frames, the greatest instant inside every moving hop's first-to-last range"
@@ -76,7 +86,7 @@ CommonTimeGreatest = (t : Tree) (f g : ℕ) → connected t f g ≡ true
 
 -- "It is refused exactly when no such instant exists"
 abbrev pub CommonTimeRefused : Type 0
-CommonTimeRefused = (t : Tree) (f g : ℕ) → connected t f g ≡ true
+CommonTimeRefused = (t : Tree) (f g : ℕ) → TwoKnown t f g → connected t f g ≡ true
     → ((k : ℕ) × (c : Carried) × (commonTime t f g ≡ refusal k c)) ↔ ((i : ℕ) → InsideEvery i (path t f g) → ⊥)
 
 -- h stands on the path, after hops that have P and before hops that have Q
@@ -95,7 +105,7 @@ pub data Blamed (h : Hop) (hs : List Hop) : Type 0 where
 
 -- the refusal is 12 and carries the blamed hop's "child and range, if any"
 abbrev pub CommonTimeBlames : Type 0
-CommonTimeBlames = (t : Tree) (f g : ℕ) → connected t f g ≡ true → (k : ℕ) (c : Carried) → commonTime t f g ≡ refusal k c
+CommonTimeBlames = (t : Tree) (f g : ℕ) → TwoKnown t f g → connected t f g ≡ true → (k : ℕ) (c : Carried) → commonTime t f g ≡ refusal k c
     → (k ≡ 12) × ((h : Hop) × (c ≡ hop (h .0) (range (h .1 .samples))) × Blamed h (path t f g))
 
 -- ---- "An accepted addition to an edge off the path of two connected frames changes neither their lookup nor their latest common time"
@@ -111,7 +121,7 @@ pub record SameAnswers (t u : Tree) (f g : ℕ) : Type 0 where
 
 abbrev pub PathLaw : Type 0
 PathLaw = (L : Limits) (t u : Tree) (a : Addition) → rising t ≡ true → noCircle t ≡ true → add L t a ≡ answer u
-    → (f g : ℕ) → connected t f g ≡ true → OffPath t (a .child) f g → SameAnswers t u f g
+    → (f g : ℕ) → TwoKnown t f g → connected t f g ≡ true → OffPath t (a .child) f g → SameAnswers t u f g
 
 -- the same of a wipe
 abbrev pub PathLawWipe : Type 0
@@ -126,7 +136,7 @@ pub record SameReplies (s u : Store) (f g : ℕ) : Type 0 where
 -- the law, of the calls on lent words: an addition of 32-bit frames that is answered with done
 abbrev pub CallsPathLaw : Type 0
 CallsPathLaw = (s : Store) (a : Addition) → a .child < 2 ^ 32 → a .parent < 2 ^ 32 → addOf s a .reply ≡ answer done
-    → (f g : ℕ) → connected (treeOf s) f g ≡ true → OffPath (treeOf s) (a .child) f g → SameReplies s (addOf s a .store) f g
+    → (f g : ℕ) → TwoKnown (treeOf s) f g → connected (treeOf s) f g ≡ true → OffPath (treeOf s) (a .child) f g → SameReplies s (addOf s a .store) f g
 
 -- the same of a wipe
 abbrev pub CallsPathLawWipe : Type 0
@@ -145,28 +155,22 @@ abbrev pub LookupRefusals : Type 0
 LookupRefusals = (t : Tree) → Rises t → (f g i k : ℕ) (c : Carried) → lookup t f g i ≡ refusal k c
     → member k (9 ∷ 11 ∷ 10 ∷ 13 ∷ 14 ∷ 3 ∷ []) ≡ true
 
--- a lookup from a frame that the source's climb comes to inverts nothing: it is refused with 11 alone
+-- a lookup from a known frame that the source's climb comes to inverts nothing: it is refused with 11 alone
 abbrev pub LookupFromAbove : Type 0
-LookupFromAbove = (t : Tree) → Rises t → (f g i k : ℕ) (c : Carried) → member f (chain t g) ≡ true → lookup t f g i ≡ refusal k c → k ≡ 11
+LookupFromAbove = (t : Tree) → Rises t → (f g i k : ℕ) (c : Carried) → known t f ≡ true → member f (chain t g) ≡ true → lookup t f g i ≡ refusal k c → k ≡ 11
 
 -- the unknown frame of two, the target first
 abbrev pub Unknown : Tree → ℕ → ℕ → ℕ → Type 0
 Unknown t f g x = ((known t f ≡ false) × (x ≡ f)) ⊎ ((known t f ≡ true) × (known t g ≡ false) × (x ≡ g))
 
--- "9 (target first)", with "the frame", of lookup and of latest common time
+-- "9 (target first)", with "the frame", of lookup and of latest common time, and of an unknown frame and itself
 abbrev pub UnknownFrame : Type 0
-UnknownFrame = (t : Tree) → Rises t → (f g : ℕ) → (f ≡ g → ⊥) → (x : ℕ)
+UnknownFrame = (t : Tree) → Rises t → (f g x : ℕ)
     → ((i : ℕ) → (lookup t f g i ≡ refusal 9 (frame x)) ↔ Unknown t f g x) × ((commonTime t f g ≡ refusal 9 (frame x)) ↔ Unknown t f g x)
 
 -- the hops that a lookup asks: "in path order, or, without a path, on the climb from target to its root, then from source to its"
 unfoldable pub asked : Tree → ℕ → ℕ → List Hop
 asked t f g = cond (connected t f g) (path t f g) (hops t (chain t f) ++ hops t (chain t g))
-
--- two known frames
-pub record TwoKnown (t : Tree) (f g : ℕ) : Type 0 where
-  pub unlike : f ≡ g → ⊥
-  pub target : known t f ≡ true
-  pub source : known t g ≡ true
 
 -- "11: first failing hop ..; its child and range, if any"
 abbrev pub LookupNotServed : Type 0

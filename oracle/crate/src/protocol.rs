@@ -59,13 +59,15 @@ impl Oracle {
             }
             ("lookup", [target, source, instant]) => {
                 let (target, source, at) = (frame(target)?, frame(source)?, instant_of(instant)?);
-                self.with(|held| {
+                self.of_two(&target, &source, |held| {
                     reply(held.get_transform(&target, &source, at), |t| show_pose(t.isometry()))
                 })
             }
             ("common", [target, source]) => {
                 let (target, source) = (frame(target)?, frame(source)?);
-                self.with(|held| reply(held.latest_common_time(&target, &source), stamp_of))
+                self.of_two(&target, &source, |held| {
+                    reply(held.latest_common_time(&target, &source), stamp_of)
+                })
             }
             ("load", []) => Some(self.load()),
             ("map" | "frame" | "name", _) => self.file.operation(name, words),
@@ -83,6 +85,20 @@ impl Oracle {
 
     fn with(&mut self, call: impl FnOnce(&mut Registry<Timestamp>) -> String) -> Option<String> {
         Some(self.registry.as_mut().map_or("no 1".into(), call))
+    }
+
+    /// A question about two frames, screened for M-102: an unknown frame and itself, which the Rust
+    /// answers with identity or Static, are 9.
+    fn of_two(
+        &mut self,
+        target: &str,
+        source: &str,
+        call: impl FnOnce(&mut Registry<Timestamp>) -> String,
+    ) -> Option<String> {
+        self.with(|held| match target == source && !held.knows(target) {
+            true => format!("no 9 {target}"),
+            false => call(held),
+        })
     }
 
     /// The map's records as additions of static frames, up to the first that is refused.

@@ -2,24 +2,24 @@
 use Prim.Native.Nat.{ℕ, suc, _≤_, _<_}
 use mathlib.Core.Path.{_≡_, refl, sym, ap, subst, subst⁻¹, _∙_}
 use mathlib.Core.Logic.{_↔_}
-use mathlib.Core.Bool.{true}
+use mathlib.Core.Bool.{true, false}
 use mathlib.Core.Option.{Option, none, some}
 use mathlib.Core.List.{List, [], _∷_, _++_}
 use native.Mathlib.Omega.{arith}
 use lib.Dec.{eqb}
-use borrow.Author.Tests.{eqb-true}
-use Rattle.time.specs.Reply.{Carried, nothing, hop, Reply, answer, refusal, _then_}
+use borrow.Author.Tests.{eqb-true, eqb-false}
+use Rattle.time.specs.Reply.{Carried, nothing, frame, hop, Reply, answer, refusal, _then_}
 use Rattle.buffer.specs.declared.kind.Kind.{Kind}
 use Rattle.buffer.specs.declared.kind.Kind.the-variants.{Static, Dynamic}
 use Rattle.buffer.specs.declared.coverage.Coverage.{Coverage}
 use Rattle.buffer.specs.declared.coverage.Coverage.the-variants.{AllTime, Range, Empty}
 use Rattle.buffer.specs.Samples.{Samples, range, coverage}
-use Rattle.buffer.proofs.Cases.{both}
+use Rattle.buffer.proofs.Cases.{both, false-true}
 use Rattle.registry.specs.Tree.{Tree}
 use Rattle.registry.specs.Answers.{Value, static, at}
-use Rattle.registry.specs.Path.{Hop, connected, Span, spans, meet, commonTime}
-use Rattle.registry.specs.PathLaws.{path, Every, cover, Ranged, InsideEvery, Greatest, Placed, Blamed, empty, latest, CommonTimeStatic, CommonTimeGreatest, CommonTimeRefused, CommonTimeBlames}
-use Rattle.registry.proofs.paths.Paths.{ask-connected, side-same, every-here, every-unit, placed-behind}
+use Rattle.registry.specs.Path.{Hop, connected, known, ask, Span, spans, meet, commonTime}
+use Rattle.registry.specs.PathLaws.{path, TwoKnown, Every, cover, Ranged, InsideEvery, Greatest, Placed, Blamed, empty, latest, CommonTimeStatic, CommonTimeGreatest, CommonTimeRefused, CommonTimeBlames}
+use Rattle.registry.proofs.paths.Paths.{connectedAreKnown, known-connected, ask-along, side-same, every-here, every-unit, placed-behind}
 use Rattle.registry.proofs.common_time.Spans.{EverySpan, Between, Met, still, meets, apart, met}
 
 -- ---- a hop's cover
@@ -164,17 +164,13 @@ replied hs = by-ranges (ranges hs)
 
 -- ---- the laws
 
--- of connected frames the common time is that of their path, the empty path of a frame and itself included
-common-time : (t : Tree) (f g : ℕ) → connected t f g ≡ true → commonTime t f g ≡ (spans (path t f g) then meet)
+-- of known, connected frames the common time is that of their path, the empty path of a frame and itself included
+pub common-time : (t : Tree) (f g : ℕ) → TwoKnown t f g → connected t f g ≡ true → commonTime t f g ≡ (spans (path t f g) then meet)
 unfolding commonTime path
-common-time t f g m =
-    ask-connected static (λ a b. spans (a ++ b) then meet) (λ a b. refusal 10 nothing) t f g m
-    ∙ both (eqb f g)
-    (λ s. rw (s, ← eqb-true f g s, side-same t f))
-    (λ s. rw s)
+common-time t f g k m = ask-along static (λ a b. spans (a ++ b) then meet) (λ a b. refusal 10 nothing) t f g k refl m
 
-of-path : (t : Tree) (f g : ℕ) → connected t f g ≡ true → Replied (path t f g) (commonTime t f g)
-of-path t f g m = rw (common-time t f g m) (replied (path t f g))
+of-path : (t : Tree) (f g : ℕ) → TwoKnown t f g → connected t f g ≡ true → Replied (path t f g) (commonTime t f g)
+of-path t f g k m = rw (common-time t f g k m) (replied (path t f g))
 
 -- every instant is inside where no hop moves
 pub static-inside : (hs : List Hop) → Every (λ h. h .1 .kind ≡ Static) hs → (i : ℕ) → InsideEvery i hs
@@ -216,13 +212,27 @@ module _ (hs : List Hop) (r : Reply Value) where
   blames (refused h e never b) k c z = ((cc), (h, (cc), b))
 
 pub commonTimeStatic : CommonTimeStatic
-commonTimeStatic t f g m = is-static (path t f g) (commonTime t f g) (of-path t f g m)
+commonTimeStatic t f g k m = is-static (path t f g) (commonTime t f g) (of-path t f g k m)
+
+-- of an unknown frame and itself 9, and no instant is the greatest inside every hop of an empty path
+greatest-unknown : (t : Tree) (f i : ℕ) → known t f ≡ false → (commonTime t f f ≡ answer (at i)) ↔ Greatest i (path t f f)
+unfolding commonTime ask path
+greatest-unknown t f i k = (
+  λ z. absurd (answered-refused {k = 9} {c = frame f} z (rw k)),
+  λ z. absurd (let l = rw (side-same t f) at (z .top (suc i)) in let h = l tt in omega arith),
+)
 
 pub commonTimeGreatest : CommonTimeGreatest
-commonTimeGreatest t f g m = is-greatest (path t f g) (commonTime t f g) (of-path t f g m)
+commonTimeGreatest t f g m i =
+    both (known t f)
+    (λ k. is-greatest (path t f g) (commonTime t f g) (of-path t f g (known-connected t f g k m) m) i)
+    (λ k.
+    both (eqb f g)
+    (λ e. rw (← eqb-true f g e) (greatest-unknown t f i k))
+    (λ e. absurd (false-true (sym k ∙ connectedAreKnown t f g (eqb-false f g e) m .target))))
 
 pub commonTimeRefused : CommonTimeRefused
-commonTimeRefused t f g m = is-refused (path t f g) (commonTime t f g) (of-path t f g m)
+commonTimeRefused t f g k m = is-refused (path t f g) (commonTime t f g) (of-path t f g k m)
 
 pub commonTimeBlames : CommonTimeBlames
-commonTimeBlames t f g m = blames (path t f g) (commonTime t f g) (of-path t f g m)
+commonTimeBlames t f g k m = blames (path t f g) (commonTime t f g) (of-path t f g k m)

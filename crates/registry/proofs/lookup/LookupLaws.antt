@@ -6,7 +6,7 @@ use mathlib.Core.Bool.{Bool, true}
 use mathlib.Core.Option.{Option, none, some}
 use mathlib.Core.List.{List, [], _∷_, _++_}
 use lib.Dec.{eqb}
-use borrow.Author.Tests.{eqb-true, ne-eqb}
+use borrow.Author.Tests.{eqb-true}
 use Rattle.time.specs.Reply.{Carried, nothing, frame, hop, Reply, answer, refusal, _then_}
 use Rattle.geometry.specs.declared.isometry.Isometry.{Isometry}
 use Rattle.geometry.specs.Isometry.{identity}
@@ -20,7 +20,7 @@ use Rattle.registry.specs.Answers.{Value, pose, static}
 use Rattle.registry.specs.Path.{Hop, chain, hops, side, connected, known, ask, joined, lookupAlong, lookupApart, lookup, spans, meet, commonTime}
 use Rattle.registry.specs.PathLaws.{Every, Rises, LookupRefusals, LookupFromAbove, Unknown, UnknownFrame}
 use Rattle.registry.specs.paths.Walks.{askKnown}
-use Rattle.registry.proofs.paths.Paths.{ask-connected, hops-pass, every-map}
+use Rattle.registry.proofs.paths.Paths.{known-connected, ask-along, hops-pass, every-map}
 use Rattle.registry.proofs.Fits.{Fits, answered, refused, Only, other, on-cond, on-then, refusal-fits, never, ask-fits, Serves, fold-only, lookup-known, common-time-known}
 
 -- every hop of such a tree is refused with 11 alone
@@ -71,17 +71,18 @@ uninverted i b s = on-then _ (fold-only eleven i none b s) kept
 
 pub lookupFromAbove : LookupFromAbove
 unfolding lookup
-lookupFromAbove t r f g i k c m e =
+lookupFromAbove t r f g i k c n m e =
+    let meet = above-connected t f g m in
     eqb-true k 11
     (refusal-fits {R = eleven} {Q = λ v. true}
-    (rw (ask-connected (pose identity) (lookupAlong i) (lookupApart i) t f g (above-connected t f g m), above-side t f g m)
-    (on-cond (eqb f g) (answered refl) (uninverted i (hops t (side t g f)) (hops-serve eleven (λ child range. refl) i t r (side t g f)))))
+    (rw (ask-along (pose identity) (lookupAlong i) (lookupApart i) t f g (known-connected t f g n meet) refl meet, above-side t f g m)
+    (uninverted i (hops t (side t g f)) (hops-serve eleven (λ child range. refl) i t r (side t g f))))
     e)
 
 -- ---- 9
 
-module _ {Q : Value → Bool} (t : Tree) (f g : ℕ) (n : f ≡ g → ⊥) (x : ℕ) (same : Value) (along apart : List Hop → List Hop → Reply Value)
-    (h : Fits (other 9) Q (askKnown t f g along apart)) where
+module _ {Q : Value → Bool} (t : Tree) (f g x : ℕ) (same : Value) (along apart : List Hop → List Hop → Reply Value)
+    (s : Q same ≡ true) (h : Fits (other 9) Q (askKnown t f g along apart)) where
   frame-in : {y : ℕ} → _≡_ {A = Reply Value} (refusal 9 (frame y)) (refusal 9 (frame x)) → x ≡ y
   frame-in e = cc e
 
@@ -92,20 +93,20 @@ module _ {Q : Value → Bool} (t : Tree) (f g : ℕ) (n : f ≡ g → ⊥) (x : 
         both (known t f)
         (λ p.
         both (known t g)
-        (λ q. absurd (never h (rw (ne-eqb f g n, p, q) at e)))
-        (λ q. inr (p, q, frame-in (rw (ne-eqb f g n, p, q) at e))))
-        (λ p. inl (p, frame-in (rw (ne-eqb f g n, p) at e))),
+        (λ q. absurd (never (on-cond (eqb f g) (answered s) h) (rw (p, q) at e)))
+        (λ q. inr (p, q, frame-in (rw (p, q) at e))))
+        (λ p. inl (p, frame-in (rw p at e))),
     of-unknown,
   )
     where
       of-unknown : Unknown t f g x → ask t f g same along apart ≡ refusal 9 (frame x)
-      of-unknown (inl w) = rw (ne-eqb f g n, w .0, w .1)
-      of-unknown (inr w) = rw (ne-eqb f g n, w .0, w .1, w .2)
+      of-unknown (inl w) = rw (w .0, w .1)
+      of-unknown (inr w) = rw (w .0, w .1, w .2)
 
 pub unknownFrame : UnknownFrame
 unfolding lookup commonTime
-unknownFrame t r f g n x = (
-  λ i. ask-nine t f g n x (pose identity) (lookupAlong i) (lookupApart i)
+unknownFrame t r f g x = (
+  λ i. ask-nine t f g x (pose identity) (lookupAlong i) (lookupApart i) refl
       (lookup-known (other 9) i refl refl refl refl t (hops-serve (other 9) (λ child range. refl) i t r) f g),
-  ask-nine t f g n x static (λ a b. spans (a ++ b) then meet) (λ a b. refusal 10 nothing) (common-time-known (other 9) (λ child range. refl) refl t f g),
+  ask-nine t f g x static (λ a b. spans (a ++ b) then meet) (λ a b. refusal 10 nothing) refl (common-time-known (other 9) (λ child range. refl) refl t f g),
 )

@@ -7,9 +7,10 @@ use mathlib.Core.Option.{Option, none, some}
 use mathlib.Core.List.{List, [], _∷_, _++_, append-assoc}
 use native.Mathlib.Omega.{arith}
 use lib.Dec.{leb}
-use borrow.Author.Tests.{leb-true, le-leb, ne-eqb}
+use borrow.Author.Tests.{leb-true, le-leb}
 use Rattle.time.specs.Reply.{Carried, nothing, hop, Reply, answer, refusal, _then_}
 use Rattle.geometry.specs.declared.isometry.Isometry.{Isometry}
+use Rattle.geometry.specs.Isometry.{identity}
 use Rattle.buffer.specs.declared.kind.Kind.{Kind}
 use Rattle.buffer.specs.declared.kind.Kind.the-variants.{Static, Dynamic}
 use Rattle.buffer.specs.Samples.{Samples, newest, range, coverage, served}
@@ -20,11 +21,11 @@ use Rattle.buffer.proofs.RangeLaws.{within}
 use Rattle.buffer.proofs.ServedLaws.{served-static, served-inside, served-outside}
 use Rattle.registry.specs.Tree.{Tree, Limits}
 use Rattle.registry.specs.Answers.{Value, pose}
-use Rattle.registry.specs.Path.{Hop, chain, hops, side, connected, ask, onto, fold, joined, lookupAlong, lookupApart, lookup}
+use Rattle.registry.specs.Path.{Hop, chain, hops, side, connected, onto, fold, joined, lookupAlong, lookupApart, lookup}
 use Rattle.registry.specs.Laws.{SoundTree}
 use Rattle.registry.specs.PathLaws.{path, Every, Ranged, Inside, Placed, asked, TwoKnown, LookupNotServed, LookupDisconnected}
 use Rattle.registry.specs.Replies.{ofPose, answers}
-use Rattle.registry.proofs.paths.Paths.{hops-pass, every-here, every-unit, every-append, placed-behind}
+use Rattle.registry.proofs.paths.Paths.{ask-along, ask-apart, hops-pass, every-here, every-unit, every-append, placed-behind}
 use Rattle.registry.proofs.Fits.{Fits, refused, other, never, posed-joined}
 use Rattle.registry.proofs.ViewFixes.{single-row, row-rises}
 
@@ -161,12 +162,12 @@ module _ (L : Limits) (t : Tree) (s : SoundTree L t) (f g : ℕ) (k : TwoKnown t
   hops-sound xs = hops-pass (λ x. instantsSound (L .age) (L .capacity) (x .1 .kind) (x .1 .samples)) t (s .rises) (s .instants) xs
 
   lookup-along : connected t f g ≡ true → lookup t f g i ≡ lookupAlong i (hops t (side t f g)) (hops t (side t g f))
-  unfolding lookup ask
-  lookup-along m = rw (ne-eqb f g (k .unlike), k .target, k .source, m)
+  unfolding lookup
+  lookup-along m = ask-along (pose identity) (lookupAlong i) (lookupApart i) t f g k refl m
 
   lookup-apart : connected t f g ≡ false → lookup t f g i ≡ lookupApart i (hops t (chain t f)) (hops t (chain t g))
-  unfolding lookup ask
-  lookup-apart m = rw (ne-eqb f g (k .unlike), k .target, k .source, m)
+  unfolding lookup
+  lookup-apart m = ask-apart (pose identity) (lookupAlong i) (lookupApart i) t f g k m
 
   pub on-path : connected t f g ≡ true → Walked (L .age) (L .capacity) i (hops t (side t f g)) (hops t (side t g f)) alongLast (lookup t f g i)
   on-path m =

@@ -4,8 +4,6 @@ use mathlib.Core.Path.{_≡_, refl, _∙_}
 use mathlib.Core.Bool.{true, false, not}
 use mathlib.Core.Option.{Option, none, some}
 use mathlib.Core.List.{List, _∷_, _++_}
-use lib.Dec.{eqb}
-use borrow.Author.Tests.{eqb-false}
 use Rattle.time.specs.Reply.{Reply, answer, refusal, nothing, hop, _then_}
 use Rattle.time.specs.Order.{Dues, firstDue, refused}
 use Rattle.geometry.specs.declared.isometry.Isometry.{Isometry}
@@ -72,28 +70,25 @@ module _ (age : Option ℕ) (capacity i : ℕ) where
 -- ---- a lookup of a sound tree
 
 module _ (L : Limits) (t : Tree) (s : SoundTree L t) (f g i : ℕ) where
-  known-due : eqb f g ≡ false → known t f ≡ true → known t g ≡ true → refused (lookup t f g i) ≡ firstDue (lookupDue t f g i) lookupOrder
+  known-due : known t f ≡ true → known t g ≡ true → refused (lookup t f g i) ≡ firstDue (lookupDue t f g i) lookupOrder
   unfolding lookupDue asked path
-  known-due n p q =
-      let two : TwoKnown t f g = record { unlike = eqb-false f g n; target = p; source = q } in
+  known-due p q =
+      let two : TwoKnown t f g = record { target = p; source = q } in
       both (connected t f g)
       (λ m.
-      rw (n, p, q, m)
+      rw (p, q, m)
       (along-due (L .age) (L .capacity) i (hops t (side t f g)) (hops t (side t g f)) (lookup t f g i) (on-path L t s f g two i m)))
       (λ m.
-      rw (n, p, q, m)
+      rw (p, q, m)
       (apart-due (L .age) (L .capacity) i (hops t (chain t f)) (hops t (chain t g)) (lookup t f g i) (inverseOf (fold none (hops t (side t f g)) i))
       (off-path L t s f g two i m)))
 
   tree-due : refused (lookup t f g i) ≡ firstDue (lookupDue t f g i) lookupOrder
   unfolding lookup ask lookupDue
   tree-due =
-      both (eqb f g)
-      (λ n. rw n)
-      (λ n.
       both (known t f)
-      (λ p. both (known t g) (λ q. known-due n p q) (λ q. rw (n, p, q)))
-      (λ p. rw (n, p)))
+      (λ p. both (known t g) (λ q. known-due p q) (λ q. rw (p, q)))
+      (λ p. rw p)
 
 -- ---- the call
 

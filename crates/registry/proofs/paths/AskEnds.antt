@@ -33,22 +33,22 @@ side-apart t f g h = until-none (λ x. member x (chain t g)) (chain t f) h
 -- ---- the questions
 
 module _ (t : Tree) (f g : ℕ) where
-  pub asked-same : f ≡ g → AskedBy t f g Same
+  pub asked-no-target : known t f ≡ false → AskedBy t f g (Unknown f)
   unfolding ask
-  asked-same e same along apart = sym (rw (eq-eqb f g e))
+  asked-no-target k same along apart = sym (rw k)
 
-  module _ (ne : f ≡ g → ⊥) where
-    pub asked-no-target : known t f ≡ false → AskedBy t f g (Unknown f)
+  module _ (k : known t f ≡ true) where
+    pub asked-no-source : known t g ≡ false → AskedBy t f g (Unknown g)
     unfolding ask
-    asked-no-target k same along apart = sym (rw (ne-eqb f g ne, k))
+    asked-no-source m same along apart = sym (rw (k, m))
 
-    pub asked-no-source : known t f ≡ true → known t g ≡ false → AskedBy t f g (Unknown g)
+    pub asked-same : known t g ≡ true → f ≡ g → AskedBy t f g Same
     unfolding ask
-    asked-no-source k m same along apart = sym (rw (ne-eqb f g ne, k, m))
+    asked-same m e same along apart = sym (rw (k, m, eq-eqb f g e))
 
-    pub asked-known : known t f ≡ true → known t g ≡ true → AskedBy t f g Known
+    pub asked-known : known t g ≡ true → (f ≡ g → ⊥) → AskedBy t f g Known
     unfolding ask
-    asked-known k m same along apart = sym (rw (ne-eqb f g ne, k, m))
+    asked-known m ne same along apart = sym (rw (k, m, ne-eqb f g ne))
 
 -- the two frames are found to be e, which is v
 pub asked-is : (t : Tree) (f g : ℕ) (e v : Endpoints) → e ≡ v → AskedBy t f g e → AskedBy t f g v

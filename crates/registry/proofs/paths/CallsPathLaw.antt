@@ -73,12 +73,12 @@ call-done s call e =
 
 pub callsPathLaw : CallsPathLaw
 unfolding addOf
-callsPathLaw s a c p e f g m off =
+callsPathLaw s a c p e f g known m off =
     let d = call-done s (λ L t. add L t a) e in
     let k = tree s (d .held) in
     rw (d .left)
     (same-replies s (d .held) (d .tree) (addKeepsSound (limitsOf s) (treeOf s) (d .tree) a c p k (d .answers)) f g
-    (pathLaw (limitsOf s) (treeOf s) (d .tree) a (k .rises) (k .circles) (d .answers) f g m off))
+    (pathLaw (limitsOf s) (treeOf s) (d .tree) a (k .rises) (k .circles) (d .answers) f g known m off))
 
 pub callsPathLawWipe : CallsPathLawWipe
 unfolding wipeOf

@@ -1,20 +1,20 @@
 -- The path law, of any question that is asked along a path, and so of lookup and latest common time.
 use Prim.Native.Nat.{ℕ}
 use mathlib.Core.Path.{_≡_, refl, sym, ap, _∙_}
-use mathlib.Core.Bool.{Bool, true, false, cond}
+use mathlib.Core.Bool.{Bool, true, false, cond, not}
 use mathlib.Core.Option.{Option, none, some}
 use mathlib.Core.List.{List, [], _∷_, _++_}
 use lib.Dec.{eqb}
 use borrow.Author.Tests.{ne-eqb, eqb-true, eqb-false}
-use Rattle.time.specs.Reply.{Reply, answer, refusal, nothing, _then_}
+use Rattle.time.specs.Reply.{Reply, answer, refusal, nothing, frame, refuse, _then_}
 use Rattle.geometry.specs.Isometry.{identity}
 use Rattle.buffer.specs.Map.{get, put}
 use Rattle.buffer.proofs.Cases.{both, none-some, false-true}
 use Rattle.buffer.proofs.Maps.{Rising, rising-is, get-put-other}
 use Rattle.registry.specs.Tree.{Edge, Tree, member, updatedEdge}
 use Rattle.registry.specs.Answers.{Value, pose, static}
-use Rattle.registry.specs.Path.{chain, until, any, Hop, hopThen, hops, side, connected, ask, lookupAlong, lookupApart, lookup, spans, meet, commonTime}
-use Rattle.registry.specs.PathLaws.{path, Every, OffPath, SameAnswers, PathLaw, PathLawWipe}
+use Rattle.registry.specs.Path.{chain, until, any, Hop, hopThen, hops, side, connected, known, ask, lookupAlong, lookupApart, lookup, spans, meet, commonTime}
+use Rattle.registry.specs.PathLaws.{path, TwoKnown, Every, OffPath, SameAnswers, PathLaw, PathLawWipe}
 use Rattle.registry.proofs.paths.Climbing.{Grounded, grounded-ranked}
 use Rattle.registry.proofs.soundness.NoCircle.{circle-grounded}
 use Rattle.registry.proofs.paths.Ancestors.{ancestors-none, ancestors-some, climb-ind}
@@ -22,6 +22,7 @@ use Rattle.registry.proofs.addition.Accepted.{Accepted, add-accepted}
 use Rattle.registry.proofs.remove_before.Wiped.{wipe-accepted}
 use Rattle.registry.proofs.paths.Paths.{connected-sym, ask-connected}
 use Rattle.registry.proofs.paths.PathKept.{Kept, kept-held, kept-new}
+use Rattle.registry.proofs.paths.KnownKept.{known-held, known-new}
 
 -- ---- off the path
 
@@ -71,8 +72,9 @@ hops-put t c d (x ∷ xs) h =
 
 -- ---- the law of what is asked
 
--- what another edge at c, off the path, leaves as it was
-module _ (t : Tree) (c : ℕ) (d : Edge) (f g : ℕ) (m : connected t f g ≡ true) (forth : Kept t (put c d t) f g) (back : Kept t (put c d t) g f)
+-- what another edge at c, off the path, leaves as it was, where it leaves the two frames known or unknown
+module _ (t : Tree) (c : ℕ) (d : Edge) (f g : ℕ) (target : known (put c d t) f ≡ known t f) (source : known (put c d t) g ≡ known t g)
+    (m : connected t f g ≡ true) (forth : Kept t (put c d t) f g) (back : Kept t (put c d t) g f)
     (off : member c (side t f g) ≡ false) (out : member c (side t g f) ≡ false) where
   abbrev after : Tree
   after = put c d t
@@ -86,7 +88,9 @@ module _ (t : Tree) (c : ℕ) (d : Edge) (f g : ℕ) (m : connected t f g ≡ tr
   ask-put : (same : Value) (along apart : List Hop → List Hop → Reply Value) → ask after f g same along apart ≡ ask t f g same along apart
   ask-put same along apart =
       ask-connected same along apart after f g (forth .connects)
-      ∙ (λ i. cond (eqb f g) (answer same) (along (target-hops i) (source-hops i)))
+      ∙ (λ i.
+      refuse (not (target i)) 9 (frame f)
+      (refuse (not (source i)) 9 (frame g) (cond (eqb f g) (answer same) (along (target-hops i) (source-hops i)))))
       ∙ sym (ask-connected same along apart t f g m)
 
   answers-put : SameAnswers t after f g
@@ -103,28 +107,29 @@ module _ (t : Tree) (c : ℕ) (d : Edge) (f g : ℕ) (m : connected t f g ≡ tr
   unfolding path
   answers-held e r q p off =
       let kept = kept-held t c e d r q p in
-      answers-put t c d f g m (kept f g m) (kept g f (connected-sym t f g m))
+      answers-put t c d f g (known-held f c d t e r q p) (known-held g c d t e r q p) m (kept f g m) (kept g f (connected-sym t f g m))
       (not-held t c e q (side t f g) (every-front (λ h. (h .0 ≡ c → ⊥)) (hops t (side t f g)) (hops t (side t g f)) off))
       (not-held t c e q (side t g f) (every-back (λ h. (h .0 ≡ c → ⊥)) (hops t (side t f g)) (hops t (side t g f)) off))
 
-  answers-new : Grounded t → get t c ≡ none → member c (chain t (d .parent)) ≡ false → SameAnswers t (put c d t) f g
+  answers-new : TwoKnown t f g → Grounded t → get t c ≡ none → member c (chain t (d .parent)) ≡ false → SameAnswers t (put c d t) f g
   unfolding side connected
-  answers-new gr n h =
+  answers-new k gr n h =
       let kept = kept-new t c d gr n h in
-      answers-put t c d f g m (kept f g m) (kept g f (connected-sym t f g m))
+      answers-put t c d f g (known-new f c d t n (k .target) ∙ sym (k .target)) (known-new g c d t n (k .source) ∙ sym (k .source)) m
+      (kept f g m) (kept g f (connected-sym t f g m))
       (not-new t gr c n (λ x. member x (chain t g)) f m)
       (not-new t gr c n (λ x. member x (chain t f)) g (connected-sym t f g m))
 
 -- ---- the laws
 
 pub pathLaw : PathLaw
-pathLaw L t u a r n e f g m off =
+pathLaw L t u a r n e f g k m off =
     let acc = add-accepted L t a u e in
     rw (acc .left) (by (get t (a .child)) refl acc)
   where
     by : (held : Option Edge) → get t (a .child) ≡ held → Accepted L t a held u → SameAnswers t (put (a .child) (updatedEdge (L .age) a held) t) f g
     by none q acc =
-        answers-new t (a .child) (updatedEdge (L .age) a none) f g m (circle-grounded t (rising-is t .0 r) n) q
+        answers-new t (a .child) (updatedEdge (L .age) a none) f g m k (circle-grounded t (rising-is t .0 r) n) q
         (rw (ne-eqb (a .child) (a .parent) (λ s. eqb-false (a .parent) (a .child) (acc .apart) (sym s))) (acc .noCircle))
     by (some h) q acc = answers-held t (a .child) (updatedEdge (L .age) a (some h)) f g m h (rising-is t .0 r) q refl off
 

@@ -1,13 +1,13 @@
--- Connected frames are known, and what is asked of them is answered from the hops of their path.
+-- Connected frames that differ are known, and what is asked of known ones is answered from the hops of their path.
 use Prim.Native.Nat.{ℕ, zero, suc}
 use mathlib.Core.Path.{_≡_, refl, sym, ap, subst⁻¹, _∙_}
-use mathlib.Core.Bool.{Bool, true, false, cond}
+use mathlib.Core.Bool.{Bool, true, false, cond, not}
 use mathlib.Core.Option.{none, some}
 use mathlib.Core.List.{List, [], _∷_, _++_}
 use lib.ListN.{length}
 use lib.Dec.{eqb}
 use borrow.Author.Tests.{eq-eqb, ne-eqb, eqb-true, eqb-false}
-use Rattle.time.specs.Reply.{Reply, answer}
+use Rattle.time.specs.Reply.{Reply, answer, frame, refuse}
 use Rattle.buffer.specs.Map.{all, get, rising}
 use Rattle.buffer.proofs.Cases.{both, none-some, false-true}
 use Rattle.buffer.proofs.Maps.{rising-is}
@@ -15,7 +15,7 @@ use Rattle.buffer.proofs.Alls.{all-get}
 use Rattle.registry.specs.Tree.{Edge, Tree, above, member}
 use Rattle.registry.specs.Answers.{Value}
 use Rattle.registry.specs.Path.{Hop, chain, any, side, connected, hops, isParent, known, ask}
-use Rattle.registry.specs.PathLaws.{Every, Placed}
+use Rattle.registry.specs.PathLaws.{TwoKnown, ConnectedAreKnown, Every, Placed}
 use Rattle.registry.proofs.paths.Climbing.{edge-or}
 
 -- ---- lists of frames
@@ -67,39 +67,64 @@ above-none t zero f q = refl
 above-none t (suc n) f q = rw q
 
 -- whoever is connected with another frame is known
-pub connected-known : (t : Tree) (f g : ℕ) → connected t f g ≡ true → eqb f g ≡ false → known t f ≡ true
+connected-known : (t : Tree) (f g : ℕ) → (f ≡ g → ⊥) → connected t f g ≡ true → known t f ≡ true
 unfolding connected
-connected-known t f g m d =
+connected-known t f g d m =
     edge-or (get t f)
     (λ q.
     let found = any-elim (λ x. member x (chain t g)) (chain t f) m in
     let here : found .0 ≡ f = only (found .0) q (found .1) in
-    rw q (above-parent t (length t) g f (rw d at (ap (λ (x : ℕ). member x (chain t g)) (sym here) ∙ found .2))))
+    rw q (above-parent t (length t) g f (rw (ne-eqb f g d) at (ap (λ (x : ℕ). member x (chain t g)) (sym here) ∙ found .2))))
     (λ e q. rw q refl)
   where
     only : (y : ℕ) → get t f ≡ none → member y (chain t f) ≡ true → y ≡ f
     only y q i = both (eqb y f) (λ s. eqb-true y f s) (λ s. absurd (false-true (rw (above-none t (length t) f q) at (rw s at i))))
 
--- ---- what is asked
+pub connectedAreKnown : ConnectedAreKnown
+connectedAreKnown t f g d m = record { target = connected-known t f g d m; source = connected-known t g f (λ e. d (sym e)) (connected-sym t f g m) }
 
-module _ (same : Value) (along apart : List Hop → List Hop → Reply Value) where
-  pub ask-same : (t : Tree) (f : ℕ) → ask t f f same along apart ≡ answer same
-  unfolding ask
-  ask-same t f = rw (eq-eqb f f refl)
+-- of connected frames both are known where the target is
+pub known-connected : (t : Tree) (f g : ℕ) → known t f ≡ true → connected t f g ≡ true → TwoKnown t f g
+known-connected t f g k m =
+    both (eqb f g)
+    (λ e. record { target = k; source = ap (known t) (sym (eqb-true f g e)) ∙ k })
+    (λ e. connectedAreKnown t f g (eqb-false f g e) m)
 
-  pub ask-connected : (t : Tree) (f g : ℕ) → connected t f g ≡ true
-      → ask t f g same along apart ≡ cond (eqb f g) (answer same) (along (hops t (side t f g)) (hops t (side t g f)))
-  unfolding ask
-  ask-connected t f g m =
-      both (eqb f g)
-      (λ s. rw s)
-      (λ s.
-      rw (s, connected-known t f g m s, connected-known t g f (connected-sym t f g m) (ne-eqb g f (λ z. eqb-false f g s (sym z))), m))
+-- a frame and itself are connected, and their path is empty
+connected-same : (t : Tree) (f : ℕ) → connected t f f ≡ true
+unfolding connected
+connected-same t f = rw (eq-eqb f f refl)
 
--- the path of a frame and itself is empty
 pub side-same : (t : Tree) (f : ℕ) → side t f f ≡ []
 unfolding side
 side-same t f = rw (eq-eqb f f refl)
+
+-- ---- what is asked
+
+module _ (same : Value) (along apart : List Hop → List Hop → Reply Value) (t : Tree) (f g : ℕ) where
+  pub ask-connected : connected t f g ≡ true
+      → ask t f g same along apart
+      ≡ refuse (not (known t f)) 9 (frame f)
+      (refuse (not (known t g)) 9 (frame g) (cond (eqb f g) (answer same) (along (hops t (side t f g)) (hops t (side t g f)))))
+  unfolding ask
+  ask-connected m = rw m
+
+  module _ (k : TwoKnown t f g) where
+    -- a frame and itself have the empty path, which gives the same-frame answer
+    pub ask-along : along [] [] ≡ answer same → connected t f g ≡ true → ask t f g same along apart ≡ along (hops t (side t f g)) (hops t (side t g f))
+    ask-along z m =
+        ask-connected m ∙ rw (k .target, k .source)
+        (both (eqb f g)
+        (λ e. rw (e, ← eqb-true f g e, side-same t f) (sym z))
+        (λ e. rw e))
+
+    pub ask-apart : connected t f g ≡ false → ask t f g same along apart ≡ apart (hops t (chain t f)) (hops t (chain t g))
+    unfolding ask
+    ask-apart m =
+        rw (k .target, k .source, m)
+        (both (eqb f g)
+        (λ e. absurd (false-true (sym m ∙ ap (connected t f) (sym (eqb-true f g e)) ∙ connected-same t f)))
+        (λ e. rw e))
 
 -- what every row of a tree passes, every hop passes
 pub hops-pass : (test : ℕ × Edge → Bool) (t : Tree) → rising t ≡ true → all test t ≡ true → (xs : List ℕ) → Every (λ h. test h ≡ true) (hops t xs)

@@ -41,19 +41,19 @@ pub(crate) enum Endpoints {
     Known,
 }
 
-// One frame twice first, even when unknown; then the target.
+// Whether they are known, the target first; then whether they are one.
 pub(crate) fn find_frames(head: &[u64], target: u32, source: u32) -> Endpoints
     requires { ⌜ RisingRows (now head) ⌝ }
     ensures { λ r. ⌜ OfTree (now (head .entry)) (λ t. AskedBy t target source r) ⌝ }
 {
-    if target == source {
-        return Endpoints::Same;
-    }
     if !frame_exists(head, target as u64) {
         return Endpoints::Unknown(target);
     }
     if !frame_exists(head, source as u64) {
         return Endpoints::Unknown(source);
+    }
+    if target == source {
+        return Endpoints::Same;
     }
     Endpoints::Known
 }

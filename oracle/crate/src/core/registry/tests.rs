@@ -1,5 +1,5 @@
-//! Glue: `Buffer::remove_before` for one child, whether there is a child, and a registry of the same age.
-//! The fields of `Registry` are private to the parent module.
+//! Glue: `Buffer::remove_before` for one child, whether there is a child, whether a frame is known, and a
+//! registry of the same age. The fields of `Registry`, and its `frame_exists`, are private to the parent module.
 use super::Registry;
 use crate::time::Timestamp;
 
@@ -12,6 +12,11 @@ impl Registry<Timestamp> {
 
     pub(crate) fn is_empty(&self) -> bool {
         self.data.is_empty()
+    }
+
+    /// Whether the frame is a child or a parent, as the Rust has it.
+    pub(crate) fn knows(&self, frame: &str) -> bool {
+        Self::frame_exists(frame, &self.data)
     }
 
     pub(crate) fn anew(&self) -> Self {

@@ -6,33 +6,41 @@ use Rattle.registry.proofs.paths.AskEnds.{asked-same, asked-no-target, 
 use Rattle.registry.proofs.paths.frames.find_frames.Statement.{statement}
 use Rattle.registry.proofs.paths.frames.find_frames.Tie as tie
 
-returns : tie.Need-returns
-returns c i p = asked-same _ _ _ (c .if1 .taken)
-
 frame-exists-requires : tie.Need-frame-exists-requires
 frame-exists-requires c κs = search needs
 
-returns-2 : tie.Need-returns-2
-returns-2 c i p = asked-no-target _ _ _ (c .before .before .if1 .left) (sym (c .before .frame-exists .ensures i p) ∙ not-true _ (c .if2 .taken))
+returns : tie.Need-returns
+returns c i p = asked-no-target _ _ _ (sym (c .before .frame-exists .ensures i p) ∙ not-true _ (c .if1 .taken))
 
 frame-exists-requires-2 : tie.Need-frame-exists-requires-2
 frame-exists-requires-2 c κs = search needs
 
+returns-2 : tie.Need-returns-2
+returns-2 c i p =
+    let z = c .before .before in
+    asked-no-source _ _ _
+    (sym (z .before .frame-exists .ensures i p) ∙ not-false _ (z .if1 .left))
+    (sym (c .before .frame-exists2 .ensures i p) ∙ not-true _ (c .if2 .taken))
+
 returns-3 : tie.Need-returns-3
 returns-3 c i p =
-    let z = c .before .before in
-    asked-no-source _ _ _ (z .before .before .if1 .left)
-    (sym (z .before .frame-exists .ensures i p) ∙ not-false _ (z .if2 .left))
-    (sym (c .before .frame-exists2 .ensures i p) ∙ not-true _ (c .if3 .taken))
+    let y = c .before in
+    let z = y .before .before in
+    asked-same _ _ _
+    (sym (z .before .frame-exists .ensures i p) ∙ not-false _ (z .if1 .left))
+    (sym (y .before .frame-exists2 .ensures i p) ∙ not-false _ (y .if2 .left))
+    (c .if3 .taken)
 
 returns-4 : tie.Need-returns-4
 returns-4 c i p =
-    let z = c .before .before in
-    asked-known _ _ _ (z .before .before .if1 .left)
-    (sym (z .before .frame-exists .ensures i p) ∙ not-false _ (z .if2 .left))
-    (sym (c .before .frame-exists2 .ensures i p) ∙ not-false _ (c .if3 .left))
+    let y = c .before in
+    let z = y .before .before in
+    asked-known _ _ _
+    (sym (z .before .frame-exists .ensures i p) ∙ not-false _ (z .if1 .left))
+    (sym (y .before .frame-exists2 .ensures i p) ∙ not-false _ (y .if2 .left))
+    (c .if3 .left)
 
 pub find-frames-spec : {M : Type 1} → statement M
 find-frames-spec =
     tie.close
-    (tie.spec returns frame-exists-requires returns-2 frame-exists-requires-2 returns-3 returns-4)
+    (tie.spec frame-exists-requires returns frame-exists-requires-2 returns-2 returns-3 returns-4)
