@@ -199,8 +199,8 @@ transforms_answer transforms_add_transform(
     uint64_t *head, size_t head_len, uint64_t *instants, size_t instants_len, double *poses, size_t poses_len,
     uint32_t child, uint32_t parent, uint32_t is_static, uint64_t instant, transforms_isometry pose);
 
-/* The source's pose seen from the target at the instant; between two samples it is interpolated. The same frame twice
- * is answered with the identity, even when the frame is unknown: of the refusals only 1 and 2 come before that.
+/* The source's pose seen from the target at the instant; between two samples it is interpolated. A frame seen from
+ * itself is the identity, at any instant, if it is known; an unknown one is refused with 9 there, too.
  * Refuses: 1, 2, 9 (the target first), 11, 10, 13, 14, 3.
  * Cost: the pass; then the hops up from both frames, at most to their roots, each found in log n steps or at once, and
  * in a moving hop's row log S; for a frame that is no child, all n rows at most. Beyond the pass, at 256*1,024 with 8
@@ -210,8 +210,8 @@ transforms_answer transforms_get_transform(
     const uint64_t *head, size_t head_len, const uint64_t *instants, size_t instants_len,
     const double *poses, size_t poses_len, uint32_t target, uint32_t source, uint64_t instant);
 
-/* The latest instant at which every moving hop between the two frames has a pose. The same frame twice is answered with
- * is_static, even when the frame is unknown: of the refusals only 1 and 2 come before that. Refuses: 1, 2, 9, 10, 12.
+/* The latest instant at which every moving hop between the two frames has a pose. Where no hop moves, and for a known
+ * frame and itself, the answer is is_static. Refuses: 1, 2, 9 (the target first), 10, 12.
  * Cost: the pass; then as get_transform, without samples and poses. Beyond the pass, at 256*1,024: 24 ns for 1 hop,
  * 2.2 us for 255. */
 transforms_answer transforms_latest_common_time(

@@ -28,7 +28,7 @@ fn flush(store: &Store) {
 }
 
 fn passed(name: &str, rounds: usize, store: &Store) -> Pass {
-    // One frame twice: the pass, and then identity.
+    // One frame twice: the pass, whether the frame is known, and then identity, or 9 where no row is used.
     let call = || store.get(&WHOLE, 1, 1, 0);
     let warm =
         [Body::warmed(1, |_| call()), Body::warmed(1, |_| store.check()), Body::warmed(1, |_| plain_read(store))];

@@ -54,8 +54,9 @@ where no unit stands. Before measuring, both sides' answers are compared in ever
 - *beyond the pass*: the function that runs after the soundness pass, exported by bench/inner and measured directly;
   nothing is subtracted.
 - *the Rust*: the oracle's crate, opt-level 3, fat LTO, one codegen unit; frames are handed over as strings made before.
-- *pass*: the soundness pass alone, by bench/inner. *same frame twice*: a whole lookup of a frame from itself, which does
-  nothing else. *plain read*: the sum of all words of the three slices, by the harness. *cold*: every line flushed before.
+- *pass*: the soundness pass alone, by bench/inner. *same frame twice*: a whole lookup of a frame from itself, which
+  looks for the frame and does nothing else. *plain read*: the sum of all words of the three slices, by the harness.
+  *cold*: every line flushed before.
 "
     )
 }
