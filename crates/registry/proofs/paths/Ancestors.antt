@@ -14,7 +14,7 @@ use Rattle.buffer.proofs.Maps.{get-put-same, get-put-other}
 use Rattle.registry.specs.Tree.{Edge, Tree, rise, ancestors, member}
 use Rattle.registry.proofs.paths.Climbing.{edge-or, Grounded, Ranked, above-more, ranked-grounded}
 
-some-in : {A : Type 0} {a b : A} → some a ≡ some b → a ≡ b
+pub some-in : {A : Type 0} {a b : A} → some a ≡ some b → a ≡ b
 some-in h = cc
 
 module _ (t : Tree) (g : Grounded t) where

@@ -13,6 +13,7 @@ use Rattle.buffer.proofs.Maps.{Rising, get-floor, get-put-same, get-put-other}
 use Rattle.registry.specs.Tree.{Edge, Tree}
 use Rattle.registry.specs.Path.{isParent, known}
 use Rattle.registry.proofs.paths.Climbing.{edge-or}
+use Rattle.registry.proofs.paths.Ancestors.{some-in}
 
 module _ (f c : ℕ) (d : Edge) where
   -- ---- an edge in the place of one with the same parent
@@ -21,9 +22,6 @@ module _ (f c : ℕ) (d : Edge) where
   parents-held [] e r q p = absurd (none-some q)
   parents-held (x ∷ t) e r q p = go (tri c (x .0)) (parents-held t e (r .1))
     where
-      some-in : some (x .1) ≡ some e → x .1 ≡ e
-      some-in h = cc
-
       go : Tri c (x .0) → (get t c ≡ some e → d .parent ≡ e .parent → isParent f (put c d t) ≡ isParent f t)
           → isParent f (put c d (x ∷ t)) ≡ isParent f (x ∷ t)
       go (less l) ih = absurd (none-some (sym (get-floor (x .0) c t (r .0) (omega arith)) ∙ rw (ne-eqb c (x .0) (λ s. omega arith)) at q))

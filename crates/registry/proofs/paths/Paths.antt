@@ -17,6 +17,7 @@ use Rattle.registry.specs.Answers.{Value}
 use Rattle.registry.specs.Path.{Hop, chain, any, side, connected, hops, isParent, known, ask}
 use Rattle.registry.specs.PathLaws.{TwoKnown, ConnectedAreKnown, Every, Placed}
 use Rattle.registry.proofs.paths.Climbing.{edge-or}
+use Rattle.registry.proofs.paths.Ancestors.{some-in}
 
 -- ---- lists of frames
 
@@ -48,9 +49,6 @@ parent-in (y ∷ t) x e q =
     both (eqb x (y .0))
     (λ s. rw (eq-eqb (y .1 .parent) (e .parent) (ap (λ (d : Edge). d .parent) (some-in (rw s at q)))))
     (λ s. both (eqb (y .1 .parent) (e .parent)) (λ z. rw z) (λ z. rw z (parent-in t x e (rw s at q))))
-  where
-    some-in : some (y .1) ≡ some e → y .1 ≡ e
-    some-in h = cc
 
 above-parent : (t : Tree) (n g f : ℕ) → member f (above n t g) ≡ true → isParent f t ≡ true
 above-parent t zero g f h = absurd (false-true h)
