@@ -89,7 +89,7 @@ enum {
     TRANSFORMS_DONE = 0,                        /* answered */
     TRANSFORMS_SIZES = 1,                       /* E, S or a slice's length is wrong */
     TRANSFORMS_UNSOUND_STORE = 2,               /* the lent words break a rule of the store */
-    TRANSFORMS_NON_FINITE_VALUES = 3,           /* a component of an added pose, or an inverse's translation */
+    TRANSFORMS_NON_FINITE_VALUES = 3,           /* a component of an added pose, or of the pose that comes out */
     TRANSFORMS_NON_UNIT_ROTATION = 4,           /* the rotation's norm differs from 1 by more than 1e-6: `norm` */
     TRANSFORMS_SELF_REFERENTIAL_FRAME = 5,      /* parent equals child */
     TRANSFORMS_REPARENTING_NOT_SUPPORTED = 6,   /* the child is held under another parent: `frame` */
@@ -146,12 +146,13 @@ typedef struct {
     uint32_t has_range;       /* with 11 and 12: 1 if the frame named holds a sample */
     uint32_t is_static;       /* latest_common_time: 1 if every hop is static, so any instant will do */
     uint32_t is_record;       /* load_map: 1 if a record is refused, and `number` is why */
+    uint32_t reserved;        /* 0 */
     uint64_t start;           /* with has_range: its first instant */
     uint64_t end;             /* with has_range: its last instant */
     double norm;              /* with 4 */
     uint64_t instant;         /* latest_common_time: the instant, unless is_static */
     uint64_t index;           /* with is_record: the record's number, counted from 0 */
-    transforms_isometry pose; /* get_transform, inverse, interpolate, validate */
+    transforms_isometry pose; /* get_transform, mul, inverse, interpolate, validate */
 } transforms_answer;
 
 /* What the book of a map's names answers for a name. */
@@ -201,7 +202,8 @@ transforms_answer transforms_add_transform(
 
 /* The source's pose seen from the target at the instant; between two samples it is interpolated. A frame seen from
  * itself is the identity, at any instant, if it is known; an unknown one is refused with 9 there, too.
- * Refuses: 1, 2, 9 (the target first), 11, 10, 13, 14, 3.
+ * Refuses: 1, 2, 9 (the target first), 11, 10, 13, 14 and, last, 3, where a component of the pose that comes out is not
+ * finite. Where a pose is answered, every pose on the way to it was finite, too.
  * Cost: the pass; then the hops up from both frames, at most to their roots, each found in log n steps or at once, and
  * in a moving hop's row log S; for a frame that is no child, all n rows at most. Beyond the pass, at 256*1,024 with 8
  * to 255 hops: 26 to 33 ns a static hop, 35 to 57 ns one that has a sample at the instant, 219 to 280 ns one that is
@@ -243,14 +245,15 @@ transforms_frame_answer transforms_map_frame(const uint8_t *map, size_t map_len,
 /* The name of a number, as the place of its bytes in the file. Refuses: 18. It costs as much as map_frame. */
 transforms_name_answer transforms_map_name(const uint8_t *map, size_t map_len, uint32_t frame);
 
-/* The product: b, given in a's frame, seen from a's parent. Never refuses. Cost: 20 ns. */
-transforms_isometry transforms_mul(transforms_isometry a, transforms_isometry b);
+/* The product: b, given in a's frame, seen from a's parent. Refuses: 3, where a component of the product is not finite.
+ * Before version 0.2.0 it returned the pose itself, finite or not. Cost: 20 ns. */
+transforms_answer transforms_mul(transforms_isometry a, transforms_isometry b);
 
 /* The inverse: the parent's frame, seen from the pose's own. Refuses: 13, 14, 3. Cost: 52 ns. */
 transforms_answer transforms_inverse(transforms_isometry pose);
 
-/* The pose at `query` between `a` at `start` and `b` at `end`. Where start equals end it is `a`. Refuses: 15.
- * Cost: 0.2 us. */
+/* The pose at `query` between `a` at `start` and `b` at `end`. Where start equals end it is `a`. Refuses: 15, 3, the
+ * latter where a component of that pose is not finite. Cost: 0.2 us. */
 transforms_answer transforms_interpolate(
     transforms_isometry a, transforms_isometry b, uint64_t start, uint64_t end, uint64_t query);
 

@@ -136,7 +136,7 @@ struct Isometry {
     static const Isometry IDENTITY;
 
     // The product: `other`, given in this frame, seen from this one's parent.
-    [[nodiscard]] Isometry mul(const Isometry &other) const noexcept { return of(transforms_mul(c(), other.c())); }
+    Result<Isometry> mul(const Isometry &other) const noexcept { return taken(transforms_mul(c(), other.c())); }
 
     Result<Isometry> inverse() const noexcept { return taken(transforms_inverse(c())); }
 

@@ -155,13 +155,13 @@ class Model:
         return "pose " + " ".join(map(write, pose))
 
     def mul(self, *floats):
-        return self.pose(poses.product(floats[:7], floats[7:]))
+        return self.pose(poses.finite(poses.product(floats[:7], floats[7:])))
 
     def inv(self, *floats):
         return self.pose(poses.inverse(floats))
 
     def interp(self, *taken):
-        return self.pose(poses.interpolate(taken[:7], taken[7:14], *taken[14:]))
+        return self.pose(poses.finite(poses.interpolate(taken[:7], taken[7:14], *taken[14:])))
 
     def sqrt(self, value):
         return "float " + write(poses.root(value))

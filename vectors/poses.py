@@ -1,6 +1,7 @@
 """Pose arithmetic of document 01 in IEEE doubles, step by step in the order of the Rust.
 
-A pose is seven floats: translation x, y, z, then rotation w, x, y, z. Rotations are (w, x, y, z).
+A pose is seven floats: translation x, y, z, then rotation w, x, y, z. Rotations are (w, x, y, z). `product` and
+`interpolate` are the steps alone, whatever comes out; an operation tests that by `finite` (M-103).
 """
 from math import isfinite, nan, sqrt
 
@@ -102,9 +103,15 @@ def seconds(nanos):
     return float(nanos // 1_000_000_000) + float(nanos % 1_000_000_000) / 1e9
 
 
-def validate(p):
-    if not all(map(isfinite, p)):
+def finite(floats):
+    """The floats as they are; 3 where one of them is not finite."""
+    if not all(map(isfinite, floats)):
         raise Refusal(3)
+    return floats
+
+
+def validate(p):
+    finite(p)
     n = norm(p[3:])
     if abs(n - 1.0) > TOLERANCE:
         raise Refusal(4, n)
@@ -117,9 +124,7 @@ def product(a, b):
 
 def inverse(p):
     q = conjugate(normalize(p[3:]))
-    v = tuple(-1.0 * c for c in rotate(q, p[:3]))
-    if not all(map(isfinite, v)):
-        raise Refusal(3)
+    v = finite(tuple(-1.0 * c for c in rotate(q, p[:3])))
     return (*v, *q)
 
 

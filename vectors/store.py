@@ -8,7 +8,7 @@ import struct
 from bisect import bisect_left
 from functools import reduce
 
-from poses import IDENTITY, Refusal, interpolate, inverse, product, validate
+from poses import IDENTITY, Refusal, finite, interpolate, inverse, product, validate
 
 HEAD, INSTANTS, POSES = 5 + 4 * 256, 65_536, 7 * 65_536
 STATIC, MOVING = 0, 1
@@ -258,10 +258,9 @@ class Store:
         if not connected:
             raise Refusal(10)
         turn = len(target_side)
-        if turn == 0:
-            return fold(poses)
-        back = inverse(fold(poses[:turn]))
-        return product(back, fold(poses[turn:])) if source_side else back
+        sides = [inverse(fold(poses[:turn]))] if target_side else []
+        sides += [fold(poses[turn:])] if source_side else []
+        return finite(reduce(product, sides))  # on the pose that comes out, never before
 
     def common(self, target, source):
         """The latest common time, or None for static."""

@@ -9,6 +9,7 @@
  *
  * Prints nothing and ends with 0; else prints where and what failed, and ends with 1.
  */
+#include <math.h>
 #include <stdio.h>
 #include <stdlib.h>
 #include <string.h>
@@ -47,6 +48,7 @@ static void check_answer(transforms_answer a, transforms_answer wanted, double e
     check(a.has_range == wanted.has_range, line, "has_range");
     check(a.is_static == wanted.is_static, line, "is_static");
     check(a.is_record == wanted.is_record, line, "is_record");
+    check(a.reserved == wanted.reserved, line, "reserved");
     check(a.start == wanted.start, line, "start");
     check(a.end == wanted.end, line, "end");
     check(a.norm == wanted.norm, line, "norm");
@@ -207,7 +209,7 @@ static void get_transform(void)
     CHECK_ANSWER(transforms_get_transform(STORE, ROOT, ARM, T(13)), .pose = POSE);
     CHECK_ANSWER(transforms_get_transform(STORE, ROOT, ARM, T(17)), .pose = LATER);
     CHECK_ANSWER(transforms_get_transform(STORE, ARM, TOOL, T(99)), .pose = FIXED);
-    CHECK_ANSWER(transforms_get_transform(STORE, ROOT, TOOL, T(13)), .pose = transforms_mul(POSE, FIXED));
+    CHECK_ANSWER(transforms_get_transform(STORE, ROOT, TOOL, T(13)), .pose = transforms_mul(POSE, FIXED).pose);
     CHECK_ANSWER(transforms_get_transform(STORE, ARM, ROOT, T(13)), .pose = transforms_inverse(POSE).pose);
     CHECK_ANSWER(transforms_get_transform(STORE, ROOT, TOOL, T(19)), .number = TRANSFORMS_NOT_FOUND_AT, .frame = ARM,
                  .has_range = 1, .start = T(13), .end = T(17));
@@ -306,8 +308,8 @@ static void mul(void)
     t.x += POSE.translation.x;
     t.y += POSE.translation.y;
     t.z += POSE.translation.z;
-    transforms_isometry wanted = {t, product(POSE.rotation, LATER.rotation)};
-    check_pose(transforms_mul(POSE, LATER), wanted, NEAR, __LINE__);
+    transforms_answer wanted = {.pose = {t, product(POSE.rotation, LATER.rotation)}};
+    check_answer(transforms_mul(POSE, LATER), wanted, NEAR, __LINE__);
 }
 
 static void inverse(void)
@@ -407,6 +409,72 @@ static void one_frame_twice(void)
     CHECK_ANSWER(transforms_latest_common_time(STORE, 91, 91), .number = TRANSFORMS_SIZES);
 }
 
+/* ---- no pose that is not finite comes out: 3, after every other refusal, and all other fields 0 */
+
+/* Twice as far is infinite. */
+static const transforms_isometry FAR = {{-1e308, 0, 0}, {1, 0, 0, 0}};
+#define CHECK_NOT_FINITE(answer) CHECK_ANSWER(answer, .number = TRANSFORMS_NON_FINITE_VALUES)
+
+static transforms_isometry with(transforms_isometry pose, int component, double value)
+{
+    double *const components[7] = {&pose.translation.x, &pose.translation.y, &pose.translation.z,
+                                   &pose.rotation.w, &pose.rotation.x, &pose.rotation.y, &pose.rotation.z};
+    *components[component] = value;
+    return pose;
+}
+
+/* Products that overflow, and operands of which one component is not finite; 15 goes first. */
+static void not_finite(void)
+{
+    static const double bad[3] = {INFINITY, -INFINITY, NAN};
+    const transforms_isometry long_rotation = {{0, 0, 0}, {1e200, 0, 0, 0}};
+    CHECK_NOT_FINITE(transforms_mul(FAR, FAR));
+    CHECK_NOT_FINITE(transforms_mul(long_rotation, long_rotation));
+    for (int i = 0; i < 7; i++) {
+        for (int k = 0; k < 3; k++) {
+            const transforms_isometry broken = with(POSE, i, bad[k]);
+            CHECK_NOT_FINITE(transforms_mul(broken, LATER));
+            CHECK_NOT_FINITE(transforms_mul(LATER, broken));
+            CHECK_NOT_FINITE(transforms_interpolate(broken, LATER, T(100), T(500), T(200)));
+            CHECK_NOT_FINITE(transforms_interpolate(LATER, broken, T(100), T(500), T(200)));
+            /* at one instant the first pose would be handed back, and the second does not matter */
+            CHECK_NOT_FINITE(transforms_interpolate(broken, LATER, T(100), T(100), T(200)));
+            CHECK_ANSWER(transforms_interpolate(LATER, broken, T(100), T(100), T(200)), .pose = LATER);
+            CHECK_ANSWER(transforms_interpolate(broken, LATER, T(500), T(100), T(200)),
+                         .number = TRANSFORMS_DURATION_UNDERFLOW);
+            CHECK_ANSWER(transforms_interpolate(broken, LATER, T(300), T(500), T(200)),
+                         .number = TRANSFORMS_DURATION_UNDERFLOW);
+        }
+    }
+}
+
+/* Hops whose product overflows, looked up from above, from below and across; 11 and 10 go first. */
+static void lookup_not_finite(void)
+{
+    const transforms_isometry opposite = {{1e308, 0, 0}, {1, 0, 0, 0}};
+    transforms_open(STORE, ROWS, SAMPLES, 0, 0);
+    CHECK_DONE(transforms_add_transform(STORE, 41, 42, 1, 0, FAR));
+    CHECK_DONE(transforms_add_transform(STORE, 42, 43, 1, 0, FAR));
+    CHECK_DONE(transforms_add_transform(STORE, 43, 44, 0, T(13), POSE));
+    CHECK_ANSWER(transforms_get_transform(STORE, 42, 41, T(13)), .pose = FAR);
+    CHECK_NOT_FINITE(transforms_get_transform(STORE, 43, 41, T(13)));
+    CHECK_NOT_FINITE(transforms_get_transform(STORE, 41, 43, T(13)));
+    CHECK_NOT_FINITE(transforms_get_transform(STORE, 44, 41, T(13)));
+    CHECK_ANSWER(transforms_get_transform(STORE, 44, 41, T(17)), .number = TRANSFORMS_NOT_FOUND_AT, .frame = 43,
+                 .has_range = 1, .start = T(13), .end = T(13));
+
+    transforms_open(STORE, ROWS, SAMPLES, 0, 0);
+    CHECK_DONE(transforms_add_transform(STORE, 41, 42, 1, 0, FAR));
+    CHECK_DONE(transforms_add_transform(STORE, 42, 43, 1, 0, FAR));
+    CHECK_DONE(transforms_add_transform(STORE, 45, 46, 1, 0, POSE));
+    CHECK_ANSWER(transforms_get_transform(STORE, 46, 41, T(13)), .number = TRANSFORMS_DISCONNECTED);
+
+    transforms_open(STORE, ROWS, SAMPLES, 0, 0);
+    CHECK_DONE(transforms_add_transform(STORE, 41, 43, 1, 0, FAR));
+    CHECK_DONE(transforms_add_transform(STORE, 42, 43, 1, 0, opposite));
+    CHECK_NOT_FINITE(transforms_get_transform(STORE, 42, 41, T(13)));
+}
+
 int main(void)
 {
     lengths();
@@ -426,5 +494,7 @@ int main(void)
     words();
     replaced_and_too_old();
     one_frame_twice();
+    not_finite();
+    lookup_not_finite();
     return 0;
 }

@@ -4,6 +4,7 @@
 #include <array>
 #include <cstdio>
 #include <cstring>
+#include <limits>
 #include <vector>
 
 #include "transforms.hpp"
@@ -75,6 +76,7 @@ bool same_stamp(const Result<Stamp> &result, const transforms_answer &a)
 constexpr Isometry POSE{{1.5, -2.5, 3.5}, {0.1, -0.3, 0.5, 0.806225774829855}};
 constexpr Isometry LATER{{-4.5, 5.5, 6.5}, {-0.2, 0.4, 0.6, 0.66332495807108}};
 constexpr Isometry LONG{{1, 2, 3}, {0, 0, 3, 4}};
+constexpr Isometry FAR{{1e308, 0, 0}, {1, 0, 0, 0}}; // twice as far is infinite
 
 void writing(Store &store)
 {
@@ -151,16 +153,35 @@ void maps(Store &store)
     CHECK(same_pose(store.get_transform(1, 3, 0), transforms_get_transform(OURS, 1, 3, 0)));
 }
 
+// A path whose poses overflow.
+void overflowing(Store &store)
+{
+    CHECK(same_refusal(store.open(ROWS, SAMPLES, 7), transforms_open(OURS, ROWS, SAMPLES, 1, 7)));
+    CHECK(same_refusal(store.add_transform(41, 42, Stamp::Static, FAR),
+                       transforms_add_transform(OURS, 41, 42, 1, 0, FAR.c())));
+    CHECK(same_refusal(store.add_transform(42, 43, Stamp::Static, FAR),
+                       transforms_add_transform(OURS, 42, 43, 1, 0, FAR.c())) && same_memory());
+    CHECK(same_pose(store.get_transform(42, 41, 0), transforms_get_transform(OURS, 42, 41, 0)));
+    CHECK(same_pose(store.get_transform(43, 41, 0), transforms_get_transform(OURS, 43, 41, 0)));
+    CHECK(store.get_transform(43, 41, 0).refusal().number() == TRANSFORMS_NON_FINITE_VALUES);
+}
+
 void poses()
 {
     const transforms_isometry a = POSE.c(), b = LATER.c();
-    CHECK(same(POSE.mul(LATER), transforms_mul(a, b)));
+    CHECK(same_pose(POSE.mul(LATER), transforms_mul(a, b)));
+    CHECK(same_pose(FAR.mul(FAR), transforms_mul(FAR.c(), FAR.c())));
+    CHECK(FAR.mul(FAR).refusal().number() == TRANSFORMS_NON_FINITE_VALUES);
     CHECK(same_pose(POSE.inverse(), transforms_inverse(a)));
     CHECK(same_pose(POSE.interpolate(LATER, 100, 500, 200), transforms_interpolate(a, b, 100, 500, 200)));
     CHECK(same_pose(POSE.interpolate(LATER, 500, 100, 200), transforms_interpolate(a, b, 500, 100, 200)));
+    const Isometry broken{{std::numeric_limits<double>::quiet_NaN(), 2, 3}, POSE.rotation};
+    CHECK(broken.mul(POSE).refusal().number() == TRANSFORMS_NON_FINITE_VALUES);
+    CHECK(broken.interpolate(POSE, 500, 500, 200).refusal().number() == TRANSFORMS_NON_FINITE_VALUES);
+    CHECK(broken.interpolate(POSE, 500, 100, 200).refusal().number() == TRANSFORMS_DURATION_UNDERFLOW);
     CHECK(same_pose(POSE.validate(), transforms_validate(a)));
     CHECK(same_pose(LONG.validate(), transforms_validate(LONG.c())));
-    CHECK(same(Isometry::IDENTITY.mul(POSE), a));
+    CHECK(same(*Isometry::IDENTITY.mul(POSE), a));
 }
 
 } // namespace
@@ -172,6 +193,7 @@ int main()
     reading(store);
     wiping(store);
     maps(store);
+    overflowing(store);
     poses();
     return failures == 0 ? 0 : 1;
 }

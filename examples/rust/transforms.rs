@@ -141,8 +141,8 @@ impl Isometry {
     };
 
     /// The product: `other`, given in self's frame, seen from self's parent.
-    pub fn mul(self, other: Isometry) -> Isometry {
-        unsafe { ffi::transforms_mul(self, other) }
+    pub fn mul(self, other: Isometry) -> Result<Isometry, Refusal> {
+        unsafe { ffi::transforms_mul(self, other) }.taken().map(|answer| answer.pose)
     }
 
     pub fn inverse(self) -> Result<Isometry, Refusal> {

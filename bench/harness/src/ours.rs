@@ -10,6 +10,7 @@ pub struct Answer {
     pub has_range: u32,
     pub is_static: u32,
     pub is_record: u32,
+    pub reserved: u32,
     pub start: u64,
     pub end: u64,
     pub norm: f64,
@@ -61,7 +62,7 @@ unsafe extern "C" {
     fn inner_get(i: Words, n: N, p: Floats, pn: N, count: usize, instant: u64) -> Answer;
     fn inner_remove_before(h: WordsMut, hn: N, i: WordsMut, n: N, p: FloatsMut, pn: N, child: u32, instant: u64) -> Answer;
 
-    pub safe fn transforms_mul(a: Pose, b: Pose) -> Pose;
+    pub safe fn transforms_mul(a: Pose, b: Pose) -> Answer;
     pub safe fn transforms_inverse(pose: Pose) -> Answer;
     pub safe fn transforms_interpolate(a: Pose, b: Pose, start: u64, end: u64, query: u64) -> Answer;
     safe fn inner_sqrt(x: f64) -> f64;

@@ -1,8 +1,9 @@
 //! The operations without a store. Both sides are C calls with poses by value: the Rust's functions are
-//! not inlined, and answer a pose with a number before it, as ours do.
+//! not inlined, and answer a pose with a number before it, as ours do. They are otherwise the Rust as it is, which
+//! hands out a product or an interpolated pose that is not finite: the test for 3 is ours alone, and within our time.
 use crate::measure::{Body, interleaved};
 use crate::ours;
-use crate::same::{same_floats, same_pose};
+use crate::same::{same_answer, same_floats};
 use crate::scene::{Pose, Random};
 use crate::table::Row;
 use transforms::bench::{self, Floats};
@@ -21,8 +22,8 @@ fn reply(pose: Option<Floats>) -> Reply {
 }
 
 #[inline(never)]
-extern "C" fn mul(a: Pose, b: Pose) -> Pose {
-    Pose(bench::mul(a.0, b.0))
+extern "C" fn mul(a: Pose, b: Pose) -> Reply {
+    reply(Some(bench::mul(a.0, b.0)))
 }
 
 #[inline(never)]
@@ -77,12 +78,11 @@ pub fn rows(rounds: usize) -> Vec<Row> {
     let [start, end, query] = [1_000_000_000, 1_010_000_000, 1_003_000_000];
     let pair = |k: usize| (p[k % INPUTS], p[k % INPUTS + 1]);
     for (a, b) in (0..INPUTS).map(pair) {
-        let (back, between) = (ours::transforms_inverse(a), ours::transforms_interpolate(a, b, start, end, query));
-        let (rust_back, rust_between) = (inverse(a), interpolate(a, b, start, end, query));
-        assert!(same_pose(ours::transforms_mul(a, b), mul(a, b).0), "mul");
-        assert!(back.number == 0 && rust_back.number == 0 && same_pose(back.pose, rust_back.pose.0), "inverse");
-        assert!(between.number == 0 && rust_between.number == 0, "interpolate");
-        assert!(same_pose(between.pose, rust_between.pose.0), "interpolate");
+        let (product, back, between) = (mul(a, b), inverse(a), interpolate(a, b, start, end, query));
+        let ours_between = ours::transforms_interpolate(a, b, start, end, query);
+        assert!(product.number == 0 && same_answer(&ours::transforms_mul(a, b), product.pose.0), "mul");
+        assert!(back.number == 0 && same_answer(&ours::transforms_inverse(a), back.pose.0), "inverse");
+        assert!(between.number == 0 && same_answer(&ours_between, between.pose.0), "interpolate");
     }
     vec![
         float("sqrt, near 1", rounds, &near, ours::SQRT, sqrt),

@@ -1,6 +1,5 @@
 //! Whether the product and the Rust answer the same.
 use crate::ours::Answer;
-use crate::scene::Pose;
 use transforms::{
     Transform, bench,
     errors::RegistryError,
@@ -13,8 +12,12 @@ pub fn same_floats(ours: &[f64], rust: &[f64]) -> bool {
     ours.len() == rust.len() && ours.iter().zip(rust).all(same)
 }
 
-pub fn same_pose(ours: Pose, rust: bench::Floats) -> bool {
-    same_floats(&ours.0, &rust)
+/// The Rust's pose, or 3 where that is not finite.
+pub fn same_answer(ours: &Answer, rust: bench::Floats) -> bool {
+    if rust.iter().any(|x| !x.is_finite()) {
+        return ours.number == 3;
+    }
+    ours.number == 0 && same_floats(&ours.pose.0, &rust)
 }
 
 /// The number, frame and range of a refusal.
@@ -38,14 +41,14 @@ fn rust_refused(error: RegistryError<Timestamp>) -> Refused {
 
 pub fn same_lookup(ours: &Answer, rust: Result<Transform<Timestamp>, RegistryError<Timestamp>>) -> bool {
     match rust {
-        Ok(found) => ours.number == 0 && same_pose(ours.pose, bench::floats_of(&found)),
+        Ok(found) => same_answer(ours, bench::floats_of(&found)),
         Err(error) => ours_refused(ours) == rust_refused(error),
     }
 }
 
 pub fn same_served(ours: &Answer, rust: Result<bench::Floats, Option<(u64, u64)>>) -> bool {
     match rust {
-        Ok(pose) => ours.number == 0 && same_pose(ours.pose, pose),
+        Ok(pose) => same_answer(ours, pose),
         Err(range) => ours.number == 11 && (ours.has_range == 1).then_some((ours.start, ours.end)) == range,
     }
 }

@@ -12,8 +12,9 @@ use borrow.Author.Tests.{lt-ltb, le-ltb, ne-eqb, le-leb, leb-true, leb-false}
 use Rattle.time.specs.Float.{_⊘_}
 use Rattle.time.specs.Reply.{Reply, answer, refusal, Carried, hop}
 use Rattle.time.specs.Timestamp.{asSecsF64, share}
+use Rattle.time.proofs.Replies.{refusal-answer}
 use Rattle.geometry.specs.declared.isometry.Isometry.{Isometry}
-use Rattle.geometry.specs.Isometry.{between, interpolate}
+use Rattle.geometry.specs.Isometry.{between, interpolated}
 use Rattle.buffer.specs.declared.kind.Kind.{Kind}
 use Rattle.buffer.specs.declared.kind.Kind.the-variants.{Static, Dynamic}
 use Rattle.buffer.specs.Map.{get, keep}
@@ -24,10 +25,10 @@ use Rattle.buffer.proofs.Maps.{Floor, Rising, get-floor, get-here, get-
 use Rattle.buffer.proofs.RangeLaws.{within}
 
 -- from < to and from <= query: the interpolation refuses nothing
-pub interpolate-answers : (a b : Isometry) (from to query : ℕ) → from < to → from ≤ query
-    → interpolate a b from to query ≡ answer (between a b (asSecsF64 (query - from) ⊘ asSecsF64 (to - from)))
-unfolding interpolate share
-interpolate-answers a b from to query h k = simp (le-ltb to from (omega arith), ne-eqb (to - from) 0 (λ e. omega arith), le-ltb query from k)
+pub interpolated-answers : (a b : Isometry) (from to query : ℕ) → from < to → from ≤ query
+    → interpolated a b from to query ≡ answer (between a b (asSecsF64 (query - from) ⊘ asSecsF64 (to - from)))
+unfolding interpolated share
+interpolated-answers a b from to query h k = simp (le-ltb to from (omega arith), ne-eqb (to - from) 0 (λ e. omega arith), le-ltb query from k)
 
 -- ---- a held instant, a static row, an empty one
 
@@ -121,7 +122,7 @@ module _ (x y : ℕ × Isometry) (ys : Samples) (t : ℕ) (h : x .0 < t) (k : t 
       rw (ne-eqb t (z .0) (λ e. omega arith)) (not-held xs (r .1))
 
 pub served-between : (child : ℕ) (xs : Samples) (x y : ℕ × Isometry) (ys : Samples) (t : ℕ) → Rising (xs ++ (x ∷ y ∷ ys)) → x .0 < t → t < y .0
-    → served child Dynamic (xs ++ (x ∷ y ∷ ys)) t ≡ interpolate (x .1) (y .1) (x .0) (y .0) t
+    → served child Dynamic (xs ++ (x ∷ y ∷ ys)) t ≡ interpolated (x .1) (y .1) (x .0) (y .0) t
 unfolding served
 served-between child xs x y ys t r h k = rw (not-held x y ys t h k xs r, below-is x y ys t h k xs r, above-is x y ys t h k xs r)
 
@@ -175,7 +176,7 @@ neighbours (x ∷ y ∷ m) t r w g = go (tri t (x .0)) (tri t (y .0)) (neighbour
         one-before x (y ∷ m) t n
 
 pub served-neighbours : (child : ℕ) (m : Samples) (t : ℕ) → Rising m → (n : Neighbours m t)
-    → served child Dynamic m t ≡ interpolate (n .below .1) (n .above .1) (n .below .0) (n .above .0) t
+    → served child Dynamic m t ≡ interpolated (n .below .1) (n .above .1) (n .below .0) (n .above .0) t
 served-neighbours child m t r n =
     ap (λ (l : Samples). served child Dynamic l t) (n .place)
     ∙ served-between child (n .before) (n .below) (n .above) (n .after) t (rw (n .place) at r) (n .under) (n .over)
@@ -189,7 +190,7 @@ served-inside child m t r w = go (get m t) refl
         let n = neighbours m t r w g in
         let u = n .under in
         let v = n .over in
-        (_, served-neighbours child m t r n ∙ interpolate-answers (n .below .1) (n .above .1) (n .below .0) (n .above .0) t (omega arith) (omega arith))
+        (_, served-neighbours child m t r n ∙ interpolated-answers (n .below .1) (n .above .1) (n .below .0) (n .above .0) t (omega arith) (omega arith))
 
 -- ---- every case: an answer where the row serves the instant, else refusal 11 with the range
 
@@ -220,14 +221,11 @@ pub served-refusal : (child : ℕ) (k : Kind) (m : Samples) (t n : ℕ) (c : Car
     → (n ≡ 11) × (c ≡ hop child (range m)) × (serves k m t ≡ false)
 served-refusal child k m t n c r e =
     both (serves k m t)
-    (λ s. absurd (answer-refusal (sym (served-answers child k m t r s .1) ∙ e)))
+    (λ s. absurd (refusal-answer (sym e ∙ served-answers child k m t r s .1)))
     (λ s.
     let q : refusal n c ≡ refusal 11 (hop child (range m)) = sym e ∙ served-refuses child k m t r s in
     (number q, carried q, s))
   where
-    answer-refusal : {p : Isometry} → answer p ≡ refusal n c → ⊥
-    answer-refusal z = let w : _≡_ {A = ℕ} 0 1 = cc in omega arith
-
     number : _≡_ {A = Reply Isometry} (refusal n c) (refusal 11 (hop child (range m))) → n ≡ 11
     number q = cc q
 

@@ -15,14 +15,14 @@ use Rattle.time.specs.Float.{_⊘_}
 use Rattle.time.specs.Reply.{Reply, Carried, answer, refusal, hop}
 use Rattle.time.specs.Timestamp.{asSecsF64}
 use Rattle.geometry.specs.declared.isometry.Isometry.{Isometry}
-use Rattle.geometry.specs.Isometry.{between, interpolate}
+use Rattle.geometry.specs.Isometry.{between, interpolated}
 use Rattle.buffer.specs.declared.kind.Kind.the-variants.{Static, Dynamic}
 use Rattle.buffer.specs.Map.{get}
 use Rattle.buffer.specs.Samples.{Samples, served}
 use Rattle.buffer.specs.Row.{poseOf, samplesOf, below, Row}
 use Rattle.buffer.proofs.Maps.{Rising, get-at}
 use Rattle.buffer.proofs.RangeLaws.{within}
-use Rattle.buffer.proofs.ServedLaws.{served-held, served-static, served-outside, served-between, interpolate-answers}
+use Rattle.buffer.proofs.ServedLaws.{served-held, served-static, served-outside, served-between, interpolated-answers}
 use Rattle.buffer.proofs.RowBack.{length-samplesOf}
 use Rattle.buffer.proofs.RowWords.{sample-at}
 use Rattle.buffer.proofs.Places.{cut, place-le, cut-below, cut-above, row-held, rising-held, key-at, range-held, place-cut}
@@ -84,7 +84,7 @@ module _ (n : ℕ) (ts : List ℕ) (fs : List Float) (row : Row n ts fs) (t k : 
 
   -- between two
   around : (i : ℕ) → k ≡ suc i → k < n → (getD ts k 0 ≡ t → ⊥)
-      → served child Dynamic held t ≡ interpolate (poseOf (drop (7 * i) fs)) (poseOf (drop (7 * k) fs)) (getD ts i 0) (getD ts k 0) t
+      → served child Dynamic held t ≡ interpolated (poseOf (drop (7 * i) fs)) (poseOf (drop (7 * k) fs)) (getD ts i 0) (getD ts k 0) t
   around i e h ne =
       let l : length held ≡ n = length-samplesOf n ts fs in
       let x : ℕ × Isometry = (getD ts i 0, poseOf (drop (7 * i) fs)) in
@@ -99,15 +99,15 @@ module _ (n : ℕ) (ts : List ℕ) (fs : List Float) (row : Row n ts fs) (t k : 
       ∙ served-between child (take i held) x y (drop (suc k) held) t (subst Rising split rises) u (omega arith)
 
   pub amid : 0 < k → k < n → (getD ts k 0 ≡ t → ⊥)
-      → (r : Reply Isometry) → r ≡ interpolate (poseOf (drop (7 * (k - 1)) fs)) (poseOf (drop (7 * k) fs)) (getD ts (k - 1) 0) (getD ts k 0) t → r ≡ served child Dynamic held t
+      → (r : Reply Isometry) → r ≡ interpolated (poseOf (drop (7 * (k - 1)) fs)) (poseOf (drop (7 * k) fs)) (getD ts (k - 1) 0) (getD ts k 0) t → r ≡ served child Dynamic held t
   amid z h ne r e = e ∙ sym (around (k - 1) (omega arith) h ne)
 
   -- where the interpolation refuses nothing
-  pub never-refused : 0 < k → k < n → (a b : Isometry) (r : Reply Isometry) → r ≡ interpolate a b (getD ts (k - 1) 0) (getD ts k 0) t → (j : ℕ) (c : Carried) → r ≡ refusal j c → ⊥
+  pub never-refused : 0 < k → k < n → (a b : Isometry) (r : Reply Isometry) → r ≡ interpolated a b (getD ts (k - 1) 0) (getD ts k 0) t → (j : ℕ) (c : Carried) → r ≡ refusal j c → ⊥
   never-refused z h a b r e j c f =
       let u = below-at (k - 1) (omega arith) in
       let v = above-at k (omega arith) h in
       let w : answer (between a b (asSecsF64 (t - getD ts (k - 1) 0) ⊘ asSecsF64 (getD ts k 0 - getD ts (k - 1) 0))) ≡ refusal j c =
-      sym (e ∙ interpolate-answers a b (getD ts (k - 1) 0) (getD ts k 0) t (omega arith) (omega arith)) ∙ f in
+      sym (e ∙ interpolated-answers a b (getD ts (k - 1) 0) (getD ts k 0) t (omega arith) (omega arith)) ∙ f in
       let no : _≡_ {A = ℕ} 0 1 = cc w in
       omega arith

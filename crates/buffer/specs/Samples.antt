@@ -4,9 +4,9 @@ use mathlib.Core.Bool.{Bool, true}
 use mathlib.Core.Option.{Option, none, some}
 use mathlib.Core.List.{List, [], _∷_, head?}
 use lib.Dec.{leb, ltb}
-use Rattle.time.specs.Reply.{Reply, answer, refusal, hop}
+use Rattle.time.specs.Reply.{Reply, answer, refusal, hop, _then_}
 use Rattle.geometry.specs.declared.isometry.Isometry.{Isometry}
-use Rattle.geometry.specs.Isometry.{interpolate}
+use Rattle.geometry.specs.Isometry.{finite, interpolated}
 use Rattle.buffer.specs.declared.kind.Kind.{Kind}
 use Rattle.buffer.specs.declared.kind.Kind.the-variants.{Static, Dynamic}
 use Rattle.buffer.specs.declared.coverage.Coverage.{Coverage}
@@ -58,7 +58,7 @@ module _ {A : Type 0} where
 
 -- the two neighbouring samples interpolated, where both are there
 abbrev pub betweenSamples : Reply Isometry → Option (ℕ × Isometry) → Option (ℕ × Isometry) → ℕ → Reply Isometry
-betweenSamples unserved (some x) (some y) t = interpolate (x .1) (y .1) (x .0) (y .0) t
+betweenSamples unserved (some x) (some y) t = interpolated (x .1) (y .1) (x .0) (y .0) t
 betweenSamples unserved (some x) none t = unserved
 betweenSamples unserved none y t = unserved
 
@@ -71,7 +71,12 @@ abbrev pub single : Reply Isometry → Option (ℕ × Isometry) → Reply Isomet
 single unserved none = unserved
 single unserved (some x) = answer (x .1)
 
--- The pose of a hop at the instant t: a static one's at any instant. Refusal 11 carries the hop's child and its range, if any.
+-- The steps to the pose of a hop at the instant t, which need not be finite: a static one's at any instant. Refusal 11 carries the hop's child and its
+-- range, if any.
 unfoldable pub served : ℕ → Kind → Samples → ℕ → Reply Isometry
 served child Static m t = single (refusal 11 (hop child (range m))) (head? m)
 served child Dynamic m t = servedAt (refusal 11 (hop child (range m))) (get m t) m t
+
+-- "sample query" (M-103): 11, then 3
+unfoldable pub query : ℕ → Kind → Samples → ℕ → Reply Isometry
+query child kind m t = served child kind m t then finite

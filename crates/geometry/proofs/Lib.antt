@@ -4,3 +4,5 @@ pub mod Squares
 pub mod UnitDistance
 pub mod ValidFast
 pub mod Order
+pub mod NoPose
+pub mod Finites

@@ -1,4 +1,4 @@
--- The pose operations are refused with the first number of their order that is due: inverse, interpolation and what an added pose must pass.
+-- The pose operations are refused with the first number of their order that is due: product, inverse, interpolation and what an added pose must pass.
 use Prim.Native.Nat.{ℕ, _-_}
 use mathlib.Core.Path.{_≡_, refl}
 use mathlib.Core.Bool.{Bool, true, false, not, _&&_}
@@ -15,12 +15,12 @@ use Rattle.time.specs.Order.{when, dueOr, refused}
 use Rattle.geometry.specs.declared.isometry.Isometry.{Isometry}
 use Rattle.geometry.specs.Vector3 as vector
 use Rattle.geometry.specs.Quaternion as quaternion
-use Rattle.geometry.specs.Isometry.{inverse, inverseWithRotation, interpolate}
+use Rattle.geometry.specs.Isometry.{isFinite, finite as finitePose, product, mul, inverse, inverseWithRotation, interpolated, interpolate}
 use Rattle.geometry.specs.Transform.{tolerance, validate}
-use Rattle.geometry.specs.Order.{inverseTranslation, inverseDue, InverseFirstDue, interpolationDue, InterpolationFirstDue, poseDue, ValidateFirstDue}
+use Rattle.geometry.specs.Order.{overflowDue, productDue, ProductFirstDue, inverseTranslation, inverseDue, InverseFirstDue, interpolationDue, InterpolationFirstDue, poseDue, ValidateFirstDue}
 
 -- a Bool's two values, with the equation
-both : {C : Type 0} (b : Bool) → (b ≡ true → C) → (b ≡ false → C) → C
+pub both : {C : Type 0} (b : Bool) → (b ≡ true → C) → (b ≡ false → C) → C
 both true f g = f refl
 both false f g = g refl
 
@@ -38,7 +38,16 @@ pub refuse-then-due : {A B : Type 0} (test : Bool) (k : ℕ) (c : Carried) (r : 
 refuse-then-due true k c r next later h = refl
 refuse-then-due false k c r next later h = h
 
+-- 3 comes last, of an answer that is not finite
+pub finite-due : (p : Isometry) → refused (finitePose p) ≡ dueOr 3 (overflowDue (answer p)) none
+unfolding finitePose
+finite-due p = refuse-due {A = Isometry} (not (isFinite p)) 3 nothing (answer p) none refl
+
 -- ---- the laws
+
+pub productFirstDue : ProductFirstDue
+unfolding mul productDue
+productFirstDue a b = finite-due (product a b)
 
 pub inverseFirstDue : InverseFirstDue
 unfolding inverse quaternion.normalize inverseWithRotation inverseDue
@@ -49,7 +58,7 @@ inverseFirstDue a =
     (refuse-due {A = Isometry} (not (vector.isFinite (inverseTranslation a))) 3 nothing _ none refl))
 
 pub interpolationFirstDue : InterpolationFirstDue
-unfolding interpolate share interpolationDue
+unfolding interpolate interpolated share interpolationDue
 interpolationFirstDue a b start end query =
     both (ltb end start)
     (λ e.
@@ -63,11 +72,11 @@ interpolationFirstDue a b start end query =
     (λ z.
     let d = eqb-true (end - start) 0 z in
     let same : eqb start end ≡ true = eq-eqb start end (omega arith) in
-    rw (z, same))
+    rw (z, same) (finite-due a))
     (λ z.
     let d = eqb-false (end - start) 0 z in
     let ne : eqb start end ≡ false = ne-eqb start end (λ q. d (omega arith)) in
-    rw (z, ne) (both (ltb query start) (λ q. rw q) (λ q. rw q)))))
+    rw (z, ne) (both (ltb query start) (λ q. rw q) (λ q. rw q (finite-due _))))))
 
 pub validateFirstDue : ValidateFirstDue
 unfolding validate poseDue

@@ -50,7 +50,7 @@ square-finite nan t = t
 square-finite (inf s) t = t
 square-finite (fin s m e) t = tt
 
-sum-finite : (x y : Float) → T (finite (x ⊕ y)) → T (finite x) × T (finite y)
+pub sum-finite : (x y : Float) → T (finite (x ⊕ y)) → T (finite x) × T (finite y)
 unfolding add
 sum-finite nan y t = absurd t
 sum-finite (inf s) nan t = absurd t

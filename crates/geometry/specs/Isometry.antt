@@ -1,6 +1,6 @@
 -- Poses: a rotation followed by a translation.
 use Prim.Native.Nat.{ℕ}
-use mathlib.Core.Bool.{not}
+use mathlib.Core.Bool.{Bool, not, _&&_}
 use mathlib.Core.Option.{Option, none, some}
 use lib.Ieee.{Float}
 use Rattle.time.specs.Float.{_⊖_, one64}
@@ -15,11 +15,24 @@ use Rattle.geometry.specs.Quaternion.{conjugate, normalize, rotateVector
 abbrev pub identity : Isometry
 identity = record { translation = vector.zeroVector; rotation = quaternion.identity }
 
-unfoldable pub mul : Isometry → Isometry → Isometry
-mul a b = record {
+-- all seven components are finite
+abbrev pub isFinite : Isometry → Bool
+isFinite a = vector.isFinite (a .translation) && quaternion.isFinite (a .rotation)
+
+-- "a pose or refusal 3 when a component of the result is not finite" (M-103)
+unfoldable pub finite : Isometry → Reply Isometry
+finite a = refuse (not (isFinite a)) 3 nothing (answer a)
+
+-- the steps of the product, whose result need not be finite
+unfoldable pub product : Isometry → Isometry → Isometry
+product a b = record {
   translation = vector.add (rotateVector (a .rotation) (b .translation)) (a .translation);
   rotation = quaternion.mul (a .rotation) (b .rotation);
 }
+
+-- "Pose product": its steps, then 3
+unfoldable pub mul : Isometry → Isometry → Reply Isometry
+mul a b = finite (product a b)
 
 -- the inverse, whose rotation is given; 3 for a translation that is not finite
 unfoldable pub inverseWithRotation : Isometry → Quaternion → Reply Isometry
@@ -43,6 +56,10 @@ abbrev pub atShare : Isometry → Isometry → Option Float → Isometry
 atShare a b none = a
 atShare a b (some ratio) = between a b ratio
 
--- between the pose a at `from` and the pose b at `to`; refusal 15 comes from the share
+-- the steps between the pose a at `from` and the pose b at `to`, whose result need not be finite; refusal 15 comes from the share
+unfoldable pub interpolated : Isometry → Isometry → ℕ → ℕ → ℕ → Reply Isometry
+interpolated a b from to query = share from to query then λ s. answer (atShare a b s)
+
+-- "and interpolation": 15, then 3
 unfoldable pub interpolate : Isometry → Isometry → ℕ → ℕ → ℕ → Reply Isometry
-interpolate a b from to query = share from to query then λ s. answer (atShare a b s)
+interpolate a b from to query = interpolated a b from to query then finite

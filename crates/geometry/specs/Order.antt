@@ -1,20 +1,38 @@
--- The orders of refusals of the pose operations: "Inverse: 13, 14, 3. Interpolation: 15. Product: none." Proved in proofs/Order.antt.
+-- The orders of refusals of the pose operations: "Inverse: 13, 14, 3. Interpolation: 15. Product: none.", and since M-103 a 3 that "comes last in each
+-- order". Proved in proofs/Order.antt.
 use Prim.Native.Nat.{ℕ}
 use mathlib.Core.Path.{_≡_}
 use mathlib.Core.Bool.{not, _&&_, _||_}
+use mathlib.Core.Option.{Option, none}
 use mathlib.Core.List.{List, [], _∷_}
 use lib.Dec.{eqb, ltb}
 use lib.Ieee.{lt}
 use lib.Ieee.Scale.{finite}
 use Rattle.time.specs.Float.{_⊖_, _⊘_, one64, abs}
-use Rattle.time.specs.Reply.{nothing, norm}
+use Rattle.time.specs.Reply.{Carried, nothing, norm, Reply, answer, refusal}
 use Rattle.time.specs.Order.{Dues, when, firstDue, refused}
 use Rattle.geometry.specs.declared.vector3.Vector3.{Vector3}
 use Rattle.geometry.specs.declared.isometry.Isometry.{Isometry}
 use Rattle.geometry.specs.Vector3 as vector
 use Rattle.geometry.specs.Quaternion as quaternion
-use Rattle.geometry.specs.Isometry.{inverse, interpolate}
+use Rattle.geometry.specs.Isometry.{isFinite, product, mul, inverse, interpolated, interpolate}
 use Rattle.geometry.specs.Transform.{tolerance, validate}
+
+-- 3: "a component of the result is not finite", where there is a result
+abbrev pub overflowDue : Reply Isometry → Option Carried
+overflowDue (answer p) = when (not (isFinite p)) nothing
+overflowDue (refusal k c) = none
+
+-- ---- product
+
+abbrev pub productOrder : List ℕ
+productOrder = 3 ∷ []
+
+unfoldable pub productDue : Isometry → Isometry → Dues
+productDue a b = (3, overflowDue (answer (product a b))) ∷ []
+
+abbrev pub ProductFirstDue : Type 0
+ProductFirstDue = (a b : Isometry) → refused (mul a b) ≡ firstDue (productDue a b) productOrder
 
 -- ---- inverse
 
@@ -41,15 +59,18 @@ InverseFirstDue = (a : Isometry) → refused (inverse a) ≡ firstDue (inverseDu
 -- ---- interpolation
 
 abbrev pub interpolationOrder : List ℕ
-interpolationOrder = 15 ∷ []
+interpolationOrder = 15 ∷ 3 ∷ []
 
 -- 15: "its ends at two instants: end, else query, before start"
-unfoldable pub interpolationDue : ℕ → ℕ → ℕ → Dues
-interpolationDue start end query = (15, when (not (eqb start end) && (ltb end start || ltb query start)) nothing) ∷ []
+unfoldable pub interpolationDue : Isometry → Isometry → ℕ → ℕ → ℕ → Dues
+interpolationDue a b start end query =
+    (3, overflowDue (interpolated a b start end query))
+    ∷ (15, when (not (eqb start end) && (ltb end start || ltb query start)) nothing)
+    ∷ []
 
 abbrev pub InterpolationFirstDue : Type 0
 InterpolationFirstDue = (a b : Isometry) (start end query : ℕ)
-    → refused (interpolate a b start end query) ≡ firstDue (interpolationDue start end query) interpolationOrder
+    → refused (interpolate a b start end query) ≡ firstDue (interpolationDue a b start end query) interpolationOrder
 
 -- ---- what an added pose must pass
 

@@ -4,9 +4,9 @@ use mathlib.Core.Path.{_≡_, refl, ap, _∙_}
 use mathlib.Core.Logic.{_↔_}
 use mathlib.Core.Option.{Option, none, some}
 use mathlib.Core.List.{List}
-use native.Mathlib.Omega.{arith}
 use lib.ListN.{length, drop}
-use Rattle.time.specs.Reply.{answer, refusal, nothing}
+use Rattle.time.specs.Reply.{answer}
+use Rattle.time.proofs.Replies.{refusal-answer, answer-in}
 use Rattle.buffer.specs.Row.{concatMap}
 use Rattle.map_file.specs.Form.{Record, recordBytes, fileBytes, FileFits, records, formed, recordCount}
 use Rattle.map_file.specs.Laws.{Bytes}
@@ -25,15 +25,9 @@ module _ (bytes : List ℕ) (rs : List Record) (h : Bytes bytes) (e : records by
 
 -- ---- what is answered of the records
 
-pub answer-is : {A : Type 0} {a b : A} → answer a ≡ answer b → a ≡ b
-answer-is e = cc e
-
-pub refusal-no : {A : Type 0} {a : A} → refusal 18 nothing ≡ answer a → ⊥
-refusal-no e = let w : _≡_ {A = ℕ} 0 1 = cc in omega arith
-
 pub answered : {A : Type 0} (call : List Record → A) (o : Option (List Record)) (a : A) → formed o call ≡ answer a → (rs : List Record) × ((o ≡ some rs) × (call rs ≡ a))
-answered call none a e = absurd (refusal-no e)
-answered call (some rs) a e = (rs, (refl, answer-is e))
+answered call none a e = absurd (refusal-answer e)
+answered call (some rs) a e = (rs, (refl, answer-in e))
 
 pub count-answered : (bytes : List ℕ) (n : ℕ) → (recordCount bytes ≡ answer n) ↔ ((rs : List Record) × ((records bytes ≡ some rs) × (length rs ≡ n)))
 unfolding recordCount

@@ -5,11 +5,12 @@ use mathlib.Core.List.{List}
 use Prim.Native.Nat.{ℕ, _*_}
 use lib.ListN.{length}
 use Rattle.time.specs.Reply.{answer, refusal, nothing}
+use Rattle.time.proofs.Replies.{refusal-answer}
 use Rattle.map_file.specs.Form.{Name, Record, records, formed, recordCount}
 use Rattle.map_file.specs.Book.{frameOf, nameOf, partOf, frameIn, partIn}
 use Rattle.map_file.specs.Laws.{Bytes}
 use Rattle.map_file.specs.walks.Names.{Formed, namesIn}
-use Rattle.map_file.proofs.FileBytes.{file-is, file-fits, refusal-no, count-answered}
+use Rattle.map_file.proofs.FileBytes.{file-is, file-fits, count-answered}
 use Rattle.map_file.proofs.NamesWalk.{names-length}
 
 module _ (bytes : List ℕ) (h : Bytes bytes) where
@@ -25,7 +26,7 @@ module _ (bytes : List ℕ) (h : Bytes bytes) where
 -- a file without the form
 pub unformed : {A : Type 0} (call : List Record → A) (o : Option (List Record)) → refusal 18 nothing ≡ formed o (λ rs. length rs) → refusal 18 nothing ≡ formed o call
 unformed call none e = refl
-unformed call (some rs) e = absurd (refusal-no e)
+unformed call (some rs) e = absurd (refusal-answer e)
 
 pub frame-unformed : (bytes : List ℕ) (name : Name) → refusal 18 nothing ≡ recordCount bytes → refusal 18 nothing ≡ frameIn bytes name
 unfolding recordCount frameIn

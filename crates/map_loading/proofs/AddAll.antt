@@ -6,13 +6,13 @@ use mathlib.Core.List.{List, [], _∷_}
 use native.Mathlib.Omega.{arith}
 use lib.ListN.{take, drop}
 use Rattle.time.specs.Reply.{Carried, Reply, answer, refusal}
+use Rattle.time.proofs.Replies.{refusal-answer}
 use Rattle.buffer.proofs.Cases.{none-some}
 use Rattle.registry.specs.Tree.{Addition}
 use Rattle.registry.specs.Store.{Store}
 use Rattle.registry.specs.Answers.{Value, done}
 use Rattle.registry.specs.Calls.{addOf}
 use Rattle.registry.specs.History.{run, accepted}
-use Rattle.registry.proofs.Held.{refusal-answer}
 use Rattle.map_loading.specs.Loading.{addAll}
 
 -- each is answered with done, and the store is what they leave

@@ -1,5 +1,5 @@
 -- A load that is answered with done is the additions of the file's records, one by one.
-use Rattle.registry.proofs.Held.{refusal-answer}
+use Rattle.time.proofs.Replies.{refusal-answer}
 use Rattle.map_loading.specs.Loading.{additions}
 use Rattle.map_loading.specs.Laws.{AddedOneByOne, DoneIsAdditions}
 use Rattle.map_loading.proofs.AddAll.{done-added}

@@ -13,16 +13,16 @@ use Rattle.geometry.specs.declared.isometry.Isometry.{Isometry}
 use Rattle.geometry.specs.declared.quaternion.Quaternion.{Quaternion}
 use Rattle.geometry.specs.Vector3 as vector
 use Rattle.geometry.specs.Quaternion.{norm, epsilon, conjugate, minusOne, normalize, rotateVector}
-use Rattle.geometry.specs.Isometry.{inverse, inverseWithRotation}
+use Rattle.geometry.specs.Isometry.{isFinite, finite as finitePose, inverse, inverseWithRotation}
 use Rattle.buffer.specs.declared.coverage.Coverage.{Coverage}
 use Rattle.buffer.specs.declared.coverage.Coverage.the-variants.{AllTime, Range, Empty}
 use Rattle.buffer.specs.Samples.{coverage, served}
 use Rattle.buffer.proofs.Cases.{false-true}
 use Rattle.registry.specs.Tree.{Tree}
 use Rattle.registry.specs.Answers.{Value}
-use Rattle.registry.specs.Path.{Hop, chain, hops, side, connected, known, ask, fold, joined, lookupAlong, lookupApart, Span, spanThen, spans, earliestEnd, latestStart, meet}
+use Rattle.registry.specs.Path.{Hop, chain, hops, side, connected, known, ask, fold, joined, combined, lookupAlong, lookupApart, Span, spanThen, spans, earliestEnd, latestStart, meet}
 use Rattle.registry.specs.PathLaws.{Every}
-use Rattle.registry.specs.Replies.{ofPose, ofTime, answers, posed}
+use Rattle.registry.specs.Replies.{ofPose, ofTime, answers}
 use Rattle.registry.specs.paths.Walks.{askKnown}
 
 -- ---- steps in order
@@ -61,7 +61,11 @@ module _ {R : ℕ → Carried → Bool} {A : Type 0} {Q : A → Bool} where
 pub never : {A : Type 0} {Q : A → Bool} {r : Reply A} {n : ℕ} {c : Carried} → Fits (other n) Q r → r ≡ refusal n c → ⊥
 never {n = n} h e = false-true (rw (eq-eqb n n refl) at (refusal-fits h e))
 
--- ---- inverse and product
+-- ---- the test for 3, inverse and product
+
+pub finite-only : (R : ℕ → Carried → Bool) → R 3 nothing ≡ true → (a : Isometry) → Only R (finitePose a)
+unfolding finitePose
+finite-only R far a = on-refuse (not (isFinite a)) 3 nothing far (answered refl)
 
 module _ (R : ℕ → Carried → Bool) (infinite : R 13 nothing ≡ true) (short : R 14 nothing ≡ true) (far : R 3 nothing ≡ true) where
   normalize-only : (q : Quaternion) → Only R (normalize q)
@@ -82,8 +86,8 @@ module _ (R : ℕ → Carried → Bool) (infinite : R 13 nothing ≡ true) (shor
   joined-only (some x) none = inverse-only x
   joined-only (some x) (some y) = on-then _ (inverse-only x) (λ back. answered refl)
 
-  pub posed-joined : (a b : Option Isometry) → Fits R (answers ofPose) (posed (joined a b))
-  posed-joined a b = on-then _ (joined-only a b) (λ p. answered refl)
+  pub combined-fits : (a b : Option Isometry) → Fits R (answers ofPose) (combined a b)
+  combined-fits a b = on-then _ (joined-only a b) (λ out. on-then _ (finite-only R far out) (λ p. answered refl))
 
 -- ---- the form of both questions
 
@@ -109,7 +113,7 @@ module _ (R : ℕ → Carried → Bool) (i : ℕ) where
       → (t : Tree) → ((xs : List ℕ) → Every Serves (hops t xs)) → (f g : ℕ) → Fits R (answers ofPose) (askKnown t f g (lookupAlong i) (lookupApart i))
   lookup-known disconnected infinite short far t s f g =
       on-cond (connected t f g)
-      (on-then _ (folded (side t f g)) (λ x. on-then _ (folded (side t g f)) (posed-joined R infinite short far x)))
+      (on-then _ (folded (side t f g)) (λ x. on-then _ (folded (side t g f)) (combined-fits R infinite short far x)))
       (on-then _ (folded (chain t f)) (λ x. on-then _ (folded (chain t g)) (λ y. refused disconnected)))
     where
       folded : (xs : List ℕ) → Only R (fold none (hops t xs) i)

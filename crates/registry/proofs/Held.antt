@@ -27,7 +27,7 @@ use Rattle.registry.proofs.paths.SoundWalks.{sound-walkable}
 -- the tests of 1 and 2 passed, and what they find before a call on the tree
 pub use Rattle.registry.proofs.soundness.Called.{TestsFind, called, found-sound}
 -- what an addition that is answered has passed, and that it keeps a tree sound
-pub use Rattle.registry.proofs.addition.Accepted.{refusal-answer, Accepted, add-accepted}
+pub use Rattle.registry.proofs.addition.Accepted.{Accepted, add-accepted}
 pub use Rattle.registry.proofs.soundness.AddKeepsSound.{addKeepsSound}
 -- the hops up to a frame, one at a time
 pub use Rattle.registry.proofs.soundness.NoCircle.{circle-grounded}

@@ -13,7 +13,7 @@ use Rattle.time.specs.Timestamp.{durationSince, share}
 use Rattle.geometry.specs.declared.isometry.Isometry.{Isometry}
 use Rattle.geometry.specs.Vector3 as vector
 use Rattle.geometry.specs.Quaternion as quaternion
-use Rattle.geometry.specs.Isometry.{identity, interpolate}
+use Rattle.geometry.specs.Isometry.{identity, finite, product, mul, interpolated, interpolate}
 use Rattle.geometry.specs.Transform.{tolerance, validate}
 use Rattle.buffer.specs.declared.kind.Kind.{Kind}
 use Rattle.buffer.specs.declared.kind.Kind.the-variants.{Static, Dynamic}
@@ -28,7 +28,7 @@ use Rattle.registry.specs.PathLaws.{Every}
 use Rattle.registry.specs.Calls.{written, openOf, onTree, addOf, wipeOf, lookupOf, commonTimeOf}
 use Rattle.registry.specs.Replies.{Form, ofDone, ofPose, ofTime, answers, fits, posed, RepliesFit}
 use Rattle.registry.proofs.paths.Paths.{every-unit, every-map}
-use Rattle.registry.proofs.Fits.{Fits, answered, refused, Only, on-refuse, on-cond, on-then, inverse-only, ask-fits, Serves, lookup-known, common-time-known}
+use Rattle.registry.proofs.Fits.{Fits, answered, refused, Only, on-refuse, on-cond, on-then, inverse-only, finite-only, ask-fits, Serves, lookup-known, common-time-known}
 
 -- with the listed data: any answer, or one of the form
 abbrev Listed : {A : Type 0} → Reply A → Type 0
@@ -49,13 +49,24 @@ posed-formed h = on-then _ h (λ p. answered refl)
 duration-listed : (later earlier : ℕ) → Listed (durationSince later earlier)
 duration-listed later earlier = on-refuse (ltb later earlier) 15 nothing refl (answered refl)
 
-interpolate-listed : (a b : Isometry) (start end query : ℕ) → Listed (interpolate a b start end query)
-unfolding interpolate share
-interpolate-listed a b start end query =
+finite-listed : (a : Isometry) → Listed (finite a)
+finite-listed a = finite-only carries refl a
+
+mul-listed : (a b : Isometry) → Listed (mul a b)
+unfolding mul
+mul-listed a b = finite-listed (product a b)
+
+interpolated-listed : (a b : Isometry) (start end query : ℕ) → Listed (interpolated a b start end query)
+unfolding interpolated share
+interpolated-listed a b start end query =
     on-then _
     (on-then _ (duration-listed end start) (λ span.
     on-cond (eqb span 0) (answered refl) (on-then _ (duration-listed query start) (λ part. answered refl))))
     (λ s. answered refl)
+
+interpolate-listed : (a b : Isometry) (start end query : ℕ) → Listed (interpolate a b start end query)
+unfolding interpolate
+interpolate-listed a b start end query = on-then _ (interpolated-listed a b start end query) finite-listed
 
 validate-listed : (a : Isometry) → Listed (validate a)
 unfolding validate
@@ -75,7 +86,7 @@ module _ (child : ℕ) (m : Samples) (t : ℕ) where
   single-listed (some x) = answered refl
 
   betweenSamples-listed : (x y : Option (ℕ × Isometry)) → Listed (betweenSamples unserved x y t)
-  betweenSamples-listed (some x) (some y) = interpolate-listed (x .1) (y .1) (x .0) (y .0) t
+  betweenSamples-listed (some x) (some y) = interpolated-listed (x .1) (y .1) (x .0) (y .0) t
   betweenSamples-listed (some x) none = refused refl
   betweenSamples-listed none y = refused refl
 
@@ -149,6 +160,7 @@ repliesFit = record {
   wipes = λ s f i. written-fits s (limitsOf s) (on-tree s (λ L t. wipe t f i) (wipe-listed (treeOf s) f i));
   lookups = λ s f g i. formed-is ofPose (on-tree s (λ L t. lookup t f g i) (lookup-formed (treeOf s) f g i));
   commonTimes = λ s f g. formed-is ofTime (on-tree s (λ L t. commonTime t f g) (common-time-formed (treeOf s) f g));
+  products = λ a b. formed-is ofPose (posed-formed (mul-listed a b));
   inverses = λ a. formed-is ofPose (posed-formed (inverse-only carries refl refl refl a));
   interpolations = λ a b start end query. formed-is ofPose (posed-formed (interpolate-listed a b start end query));
   validations = λ a. formed-is ofPose (posed-formed (validate-listed a));

@@ -3,3 +3,4 @@ pub mod Joining
 pub mod LookupLaws
 pub mod LookupEnds
 pub mod NotServed
+pub mod Overflow

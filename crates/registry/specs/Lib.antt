@@ -9,6 +9,7 @@ pub mod History
 pub mod Demand3
 pub mod Laws
 pub mod PathLaws
+pub mod Overflow
 pub mod AsMap
 pub mod Order
 pub mod Replies

@@ -7,10 +7,10 @@ use mathlib.Core.Option.{Option, none, some, orElse}
 use mathlib.Core.List.{List, [], _∷_}
 use lib.Dec.{eqb, leb, ltb}
 use lib.ListN.{length}
-use Rattle.time.specs.Reply.{Carried, Reply, answer, refusal, nothing, frame, hop}
-use Rattle.time.specs.Order.{Dues, when, firstDue, refused}
+use Rattle.time.specs.Reply.{Carried, Reply, answer, refusal, nothing, frame, hop, _then_}
+use Rattle.time.specs.Order.{Dues, when, dueAt, firstDue, refused}
 use Rattle.geometry.specs.declared.isometry.Isometry.{Isometry}
-use Rattle.geometry.specs.Order.{inverseDue, poseDue}
+use Rattle.geometry.specs.Order.{inverseDue, overflowDue, poseDue}
 use Rattle.buffer.specs.declared.coverage.Coverage.{Coverage}
 use Rattle.buffer.specs.declared.coverage.Coverage.the-variants.{AllTime, Range, Empty}
 use Rattle.buffer.specs.Map.{all, get}
@@ -18,7 +18,7 @@ use Rattle.buffer.specs.Samples.{range}
 use Rattle.registry.specs.Tree.{Tree, Limits, Addition, isAbsent, ancestors, member, kindOf, otherParent, currentParent, otherKind, updatedEdge}
 use Rattle.registry.specs.Store.{Store, treeOf, limitsOf, sizesFit, sized}
 use Rattle.registry.specs.Sound.{sound}
-use Rattle.registry.specs.Path.{Hop, side, connected, hops, known, fold}
+use Rattle.registry.specs.Path.{Hop, side, connected, hops, known, fold, joined}
 use Rattle.registry.specs.PathLaws.{path, cover, asked}
 use Rattle.registry.specs.Calls.{openOf, addOf, wipeOf, lookupOf, commonTimeOf}
 
@@ -91,18 +91,24 @@ firstHop fault (h ∷ hs) = cond (fault (cover h)) (some (hop (h .0) (range (h .
 abbrev pub notServedDue : List Hop → ℕ → Option Carried
 notServedDue hs i = firstHop (λ c. not (covers c i)) hs
 
--- 13, 14 and 3 are those of the inverse of the target side, where it has a pose
+-- 13, 14 and 3 of the inverse of the target side, where it has a pose
 abbrev pub inverseOf : Reply (Option Isometry) → Dues
 inverseOf (answer none) = []
 inverseOf (answer (some a)) = inverseDue a
 inverseOf (refusal k c) = []
 
+-- 3: that of the inverse, or "3 on the pose that comes out" (M-103)
 unfoldable pub lookupDue : Tree → ℕ → ℕ → ℕ → Dues
 lookupDue t target source i =
-    (9, unknownDue t target source)
+    let a = fold none (hops t (side t target source)) i in
+    let b = fold none (hops t (side t source target)) i in
+    (3, orElse (dueAt (inverseOf a) 3) (overflowDue (a then λ x. b then λ y. joined x y)))
+    ∷ (9, unknownDue t target source)
     ∷ (10, apartDue t target source)
     ∷ (11, notServedDue (asked t target source) i)
-    ∷ inverseOf (fold none (hops t (side t target source)) i)
+    ∷ (13, dueAt (inverseOf a) 13)
+    ∷ (14, dueAt (inverseOf a) 14)
+    ∷ []
 
 abbrev pub LookupFirstDue : Type 0
 LookupFirstDue = (s : Store) (target source i : ℕ)

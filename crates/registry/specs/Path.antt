@@ -6,7 +6,7 @@ use mathlib.Core.List.{List, [], _∷_, _++_}
 use lib.Dec.{eqb, ltb}
 use Rattle.time.specs.Reply.{Carried, nothing, frame, hop, Reply, answer, refusal, refuse, _then_}
 use Rattle.geometry.specs.declared.isometry.Isometry.{Isometry}
-use Rattle.geometry.specs.Isometry.{identity, mul, inverse}
+use Rattle.geometry.specs.Isometry.{identity, finite, product, inverse}
 use Rattle.buffer.specs.Map.{get}
 use Rattle.buffer.specs.declared.coverage.Coverage.{Coverage}
 use Rattle.buffer.specs.declared.coverage.Coverage.the-variants.{AllTime, Range, Empty}
@@ -84,7 +84,7 @@ ask t target source same along apart =
 -- with the parent's pose on the left
 abbrev pub onto : Isometry → Option Isometry → Isometry
 onto p none = p
-onto p (some below) = mul p below
+onto p (some below) = product p below
 
 -- the product of a side's poses at the instant, none for an empty side; 11 for the first hop that is not served
 abbrev pub fold : Option Isometry → List Hop → ℕ → Reply (Option Isometry)
@@ -96,14 +96,18 @@ abbrev pub joined : Option Isometry → Option Isometry → Reply Isometry
 joined none none = answer identity
 joined none (some source) = answer source
 joined (some target) none = inverse target
-joined (some target) (some source) = inverse target then λ back. answer (mul back source)
+joined (some target) (some source) = inverse target then λ back. answer (product back source)
 
--- 11 in path order, then 13, 14 and 3 of the inverse
+-- "reckoned through as in document 01", with 13, 14 and 3 of the inverse, then "3 on the pose that comes out" (M-103)
+abbrev pub combined : Option Isometry → Option Isometry → Reply Value
+combined target source = joined target source then λ out. finite out then λ p. answer (pose p)
+
+-- 11 in path order, then what the two sides come to
 abbrev pub lookupAlong : ℕ → List Hop → List Hop → Reply Value
 lookupAlong i target source =
     fold none target i then λ a.
     fold none source i then λ b.
-    joined a b then λ p. answer (pose p)
+    combined a b
 
 -- without a path: 11 on the climb from the target to its root, then from the source to its, else 10
 abbrev pub lookupApart : ℕ → List Hop → List Hop → Reply Value

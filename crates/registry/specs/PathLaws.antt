@@ -155,9 +155,10 @@ abbrev pub LookupRefusals : Type 0
 LookupRefusals = (t : Tree) → Rises t → (f g i k : ℕ) (c : Carried) → lookup t f g i ≡ refusal k c
     → member k (9 ∷ 11 ∷ 10 ∷ 13 ∷ 14 ∷ 3 ∷ []) ≡ true
 
--- a lookup from a known frame that the source's climb comes to inverts nothing: it is refused with 11 alone
+-- a lookup from a known frame that the source's climb comes to inverts nothing: it is refused with 11, or with 3 of the pose that comes out (M-103)
 abbrev pub LookupFromAbove : Type 0
-LookupFromAbove = (t : Tree) → Rises t → (f g i k : ℕ) (c : Carried) → known t f ≡ true → member f (chain t g) ≡ true → lookup t f g i ≡ refusal k c → k ≡ 11
+LookupFromAbove = (t : Tree) → Rises t → (f g i k : ℕ) (c : Carried) → known t f ≡ true → member f (chain t g) ≡ true → lookup t f g i ≡ refusal k c
+    → member k (11 ∷ 3 ∷ []) ≡ true
 
 -- the unknown frame of two, the target first
 abbrev pub Unknown : Tree → ℕ → ℕ → ℕ → Type 0

@@ -4,7 +4,7 @@ use mathlib.Core.Path.{_≡_}
 use mathlib.Core.Bool.{Bool, true, false}
 use Rattle.time.specs.Reply.{Reply, answer, refusal, _then_}
 use Rattle.geometry.specs.declared.isometry.Isometry.{Isometry}
-use Rattle.geometry.specs.Isometry.{inverse, interpolate}
+use Rattle.geometry.specs.Isometry.{mul, inverse, interpolate}
 use Rattle.geometry.specs.Transform.{validate}
 use Rattle.registry.specs.Tree.{Limits, Addition}
 use Rattle.registry.specs.Store.{Store}
@@ -46,6 +46,7 @@ pub record RepliesFit : Type 0 where
   pub wipes : (s : Store) (f i : ℕ) → fits ofDone (wipeOf s f i .reply) ≡ true
   pub lookups : (s : Store) (target source i : ℕ) → fits ofPose (lookupOf s target source i) ≡ true
   pub commonTimes : (s : Store) (target source : ℕ) → fits ofTime (commonTimeOf s target source) ≡ true
+  pub products : (a b : Isometry) → fits ofPose (posed (mul a b)) ≡ true
   pub inverses : (a : Isometry) → fits ofPose (posed (inverse a)) ≡ true
   pub interpolations : (a b : Isometry) (start end query : ℕ) → fits ofPose (posed (interpolate a b start end query)) ≡ true
   pub validations : (a : Isometry) → fits ofPose (posed (validate a)) ≡ true

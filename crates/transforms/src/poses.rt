@@ -7,21 +7,14 @@ use super::output;
 use text::Float;
 
 // `mul P P`
-fn mul(line: &[u8], at: usize) -> Pose {
+fn mul(line: &[u8], at: usize, out: &mut [u8], to: usize) -> usize {
     let Poses::Value(a, b, next) = operands::read_poses(line, at) else {
-        return Pose::Malformed;
-    };
-    if text::ended(line, next) {
-        return Pose::Value(a.mul(b), next);
-    }
-    Pose::Malformed
-}
-
-fn answer_mul(line: &[u8], at: usize, out: &mut [u8], to: usize) -> usize {
-    let Pose::Value(p, _) = mul(line, at) else {
         return output::malformed(out, to);
     };
-    answers::write_pose(out, to, p)
+    if text::ended(line, next) {
+        return output::of_pose(out, to, a.mul(b));
+    }
+    output::malformed(out, to)
 }
 
 // `inv P`
@@ -103,7 +96,7 @@ fn answer_timed(line: &[u8], out: &mut [u8], to: usize) -> usize {
 pub(crate) fn answer(line: &[u8], out: &mut [u8], to: usize) -> usize {
     let factors = operands::behind(line, 0, b"mul");
     if factors > 0 {
-        return answer_mul(line, factors, out, to);
+        return mul(line, factors, out, to);
     }
     let inverted = operands::behind(line, 0, b"inv");
     if inverted > 0 {

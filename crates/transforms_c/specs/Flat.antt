@@ -21,27 +21,27 @@ noPose = record { translation = zeroVector; rotation = record { w = zero64; x = 
 
 -- a number and nothing else
 abbrev pub plain : ℕ → Answer
-plain k = record { number = k; frame = 0; «has_range» = 0; «is_static» = 0; «is_record» = 0; start = 0; end = 0; norm = zero64; instant = 0; index = 0; pose = noPose }
+plain k = record { number = k; frame = 0; «has_range» = 0; «is_static» = 0; «is_record» = 0; reserved = 0; start = 0; end = 0; norm = zero64; instant = 0; index = 0; pose = noPose }
 
 abbrev pub posed : Isometry → Answer
-posed p = record { number = 0; frame = 0; «has_range» = 0; «is_static» = 0; «is_record» = 0; start = 0; end = 0; norm = zero64; instant = 0; index = 0; pose = p }
+posed p = record { number = 0; frame = 0; «has_range» = 0; «is_static» = 0; «is_record» = 0; reserved = 0; start = 0; end = 0; norm = zero64; instant = 0; index = 0; pose = p }
 
 abbrev pub anyInstant : Answer
-anyInstant = record { number = 0; frame = 0; «has_range» = 0; «is_static» = 1; «is_record» = 0; start = 0; end = 0; norm = zero64; instant = 0; index = 0; pose = noPose }
+anyInstant = record { number = 0; frame = 0; «has_range» = 0; «is_static» = 1; «is_record» = 0; reserved = 0; start = 0; end = 0; norm = zero64; instant = 0; index = 0; pose = noPose }
 
 abbrev pub atInstant : ℕ → Answer
-atInstant i = record { number = 0; frame = 0; «has_range» = 0; «is_static» = 0; «is_record» = 0; start = 0; end = 0; norm = zero64; instant = i; index = 0; pose = noPose }
+atInstant i = record { number = 0; frame = 0; «has_range» = 0; «is_static» = 0; «is_record» = 0; reserved = 0; start = 0; end = 0; norm = zero64; instant = i; index = 0; pose = noPose }
 
 abbrev pub normed : ℕ → Float → Answer
-normed k n = record { number = k; frame = 0; «has_range» = 0; «is_static» = 0; «is_record» = 0; start = 0; end = 0; norm = n; instant = 0; index = 0; pose = noPose }
+normed k n = record { number = k; frame = 0; «has_range» = 0; «is_static» = 0; «is_record» = 0; reserved = 0; start = 0; end = 0; norm = n; instant = 0; index = 0; pose = noPose }
 
 abbrev pub framed : ℕ → ℕ → Answer
-framed k f = record { number = k; frame = f; «has_range» = 0; «is_static» = 0; «is_record» = 0; start = 0; end = 0; norm = zero64; instant = 0; index = 0; pose = noPose }
+framed k f = record { number = k; frame = f; «has_range» = 0; «is_static» = 0; «is_record» = 0; reserved = 0; start = 0; end = 0; norm = zero64; instant = 0; index = 0; pose = noPose }
 
 -- a hop's child, and its range if there is one
 abbrev pub ranged : ℕ → ℕ → Option (ℕ × ℕ) → Answer
 ranged k f none = framed k f
-ranged k f (some r) = record { number = k; frame = f; «has_range» = 1; «is_static» = 0; «is_record» = 0; start = r .0; end = r .1; norm = zero64; instant = 0; index = 0; pose = noPose }
+ranged k f (some r) = record { number = k; frame = f; «has_range» = 1; «is_static» = 0; «is_record» = 0; reserved = 0; start = r .0; end = r .1; norm = zero64; instant = 0; index = 0; pose = noPose }
 
 abbrev pub flat : Reply Value → Answer
 flat (answer done) = plain 0
@@ -65,6 +65,7 @@ ofRecord n a = record {
   «has_range» = a .«has_range»;
   «is_static» = a .«is_static»;
   «is_record» = 1;
+  reserved = a .reserved;
   start = a .start;
   end = a .end;
   norm = a .norm;

@@ -3,7 +3,8 @@ use geometry::isometry::Isometry;
 use geometry::quaternion::Quaternion;
 use geometry::vector3::Vector3;
 
-// 0 or the number of the refusal, and what goes with it; a field that is not carried is 0.
+// 0 or the number of the refusal, and what goes with it; a field that is not carried is 0. No byte is padding: a copy of
+// padding made every call that answers a pose wait for its own stores.
 #[repr(C)]
 pub struct Answer {
     pub number: u32,
@@ -11,6 +12,7 @@ pub struct Answer {
     pub has_range: u32,
     pub is_static: u32,
     pub is_record: u32,
+    pub reserved: u32,
     pub start: u64,
     pub end: u64,
     pub norm: f64,
@@ -27,6 +29,7 @@ impl Answer {
         has_range: 0,
         is_static: 0,
         is_record: 0,
+        reserved: 0,
         start: 0,
         end: 0,
         norm: 0.0,

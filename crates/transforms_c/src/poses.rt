@@ -9,10 +9,10 @@ ghost use Rattle.geometry.specs.Transform.{validate};
 ghost use Rattle.transforms_c.specs.Flat.{flatPose};
 
 #[no_mangle]
-pub extern "C" fn transforms_mul(a: Isometry, b: Isometry) -> Isometry
-    ensures { λ r. ⌜ r ≡ mul a b ⌝ }
+pub extern "C" fn transforms_mul(a: Isometry, b: Isometry) -> Answer
+    ensures { λ r. ⌜ r ≡ flatPose (mul a b) ⌝ }
 {
-    a.mul(b)
+    flat::flat_pose(a.mul(b))
 }
 
 #[no_mangle]

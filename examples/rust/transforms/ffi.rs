@@ -9,6 +9,7 @@ pub struct Answer {
     pub has_range: u32,
     pub is_static: u32,
     pub is_record: u32,
+    pub reserved: u32,
     pub start: u64,
     pub end: u64,
     pub norm: f64,
@@ -93,7 +94,7 @@ extern "C" {
     ) -> Answer;
     pub fn transforms_map_frame(map: *const u8, map_len: usize, name: *const u8, name_len: usize) -> FrameAnswer;
     pub fn transforms_map_name(map: *const u8, map_len: usize, frame: u32) -> NameAnswer;
-    pub fn transforms_mul(a: Isometry, b: Isometry) -> Isometry;
+    pub fn transforms_mul(a: Isometry, b: Isometry) -> Answer;
     pub fn transforms_inverse(pose: Isometry) -> Answer;
     pub fn transforms_interpolate(a: Isometry, b: Isometry, start: u64, end: u64, query: u64) -> Answer;
     pub fn transforms_validate(pose: Isometry) -> Answer;

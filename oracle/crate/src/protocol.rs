@@ -5,7 +5,7 @@ use crate::{
     errors::{QuaternionError, RegistryError, TimeError, TransformError},
     geometry::transform::Isometry,
     maps::{MapFile, book, place},
-    text::{float, frame, number, pose, show, show_pose},
+    text::{components, float, frame, number, pose, show, show_pose},
     time::{Stamp, Timestamp},
 };
 use std::time::Duration;
@@ -60,7 +60,7 @@ impl Oracle {
             ("lookup", [target, source, instant]) => {
                 let (target, source, at) = (frame(target)?, frame(source)?, instant_of(instant)?);
                 self.of_two(&target, &source, |held| {
-                    reply(held.get_transform(&target, &source, at), |t| show_pose(t.isometry()))
+                    finite_pose(held.get_transform(&target, &source, at).map(|t| t.isometry()))
                 })
             }
             ("common", [target, source]) => {
@@ -138,13 +138,13 @@ fn add(
 /// The operations without a store.
 fn leaf(name: &str, words: &[&str]) -> Option<String> {
     match (name, words.len()) {
-        ("mul", 14) => Some(show_pose(pose(&words[..7])? * pose(&words[7..])?)),
+        ("mul", 14) => Some(finite_pose(Ok(pose(&words[..7])? * pose(&words[7..])?))),
         ("inv", 7) => Some(reply(pose(words)?.inverse().map_err(wrapped), show_pose)),
         ("interp", 17) => {
             let (from, to) = (pose(&words[..7])?, pose(&words[7..14])?);
             let [start, end, query] = [14, 15, 16].map(|k| instant_of(words[k]));
             let between = from.interpolate(to, start?, end?, query?);
-            Some(reply(between.map_err(|e| wrapped(e.into())), show_pose))
+            Some(finite_pose(between.map_err(|e| wrapped(e.into()))))
         }
         ("sqrt", 1) => Some(format!("float {}", show(libm::sqrt(float(words[0])?)))),
         ("acos", 1) => Some(format!("float {}", show(libm::acos(float(words[0])?)))),
@@ -173,6 +173,16 @@ fn reply<A>(result: Result<A, RegistryError<Timestamp>>, say: impl FnOnce(A) -> 
         Ok(answer) => say(answer),
         Err(error) => format!("no {}", refusal(error)),
     }
+}
+
+/// The pose of a product, an interpolation or a lookup, screened for M-103: one with a component that is
+/// not finite, which the Rust hands out, is 3.
+fn finite_pose(result: Result<Isometry, RegistryError<Timestamp>>) -> String {
+    let finite = |p| match components(p).into_iter().all(f64::is_finite) {
+        true => Ok(p),
+        false => Err(RegistryError::NonFiniteValues),
+    };
+    reply(result.and_then(finite), show_pose)
 }
 
 /// Document 01's number of an error, and the data it carries.

@@ -85,6 +85,12 @@ pub(crate) fn isometry(floats: &[f64]) -> Option<Isometry> {
     })
 }
 
+/// The seven floats of a pose, in the same order.
+pub(crate) fn components(p: Isometry) -> [f64; 7] {
+    let (t, r) = (p.translation, p.rotation);
+    [t.x, t.y, t.z, r.w, r.x, r.y, r.z]
+}
+
 pub(crate) fn show(v: f64) -> String {
     if v.is_nan() {
         "nan".into()
@@ -98,7 +104,5 @@ pub(crate) fn show_bytes(bytes: &[u8]) -> String {
 }
 
 pub(crate) fn show_pose(p: Isometry) -> String {
-    let (t, r) = (p.translation, p.rotation);
-    let floats = [t.x, t.y, t.z, r.w, r.x, r.y, r.z].map(show);
-    format!("pose {}", floats.join(" "))
+    format!("pose {}", components(p).map(show).join(" "))
 }

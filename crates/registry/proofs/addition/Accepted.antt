@@ -8,6 +8,7 @@ use lib.ListN.{length}
 use lib.Dec.{eqb, leb, ltb}
 use borrow.Author.Tests.{eqb-true, le-leb, leb-false, ltb-false}
 use Rattle.time.specs.Reply.{Carried, nothing, Reply, answer, refusal, refuse, _then_}
+use Rattle.time.proofs.Replies.{answer-in, refuse-answered, then-answered}
 use Rattle.geometry.specs.Transform.{validate, passes}
 use Rattle.buffer.specs.declared.kind.Kind.{Kind}
 use Rattle.buffer.specs.declared.kind.Kind.the-variants.{Static, Dynamic}
@@ -17,21 +18,6 @@ use Rattle.buffer.proofs.Maps.{Rising, length-put-new, length-put-held}
 use Rattle.buffer.proofs.Alls.{all-put}
 use Rattle.registry.specs.Tree.{Edge, Tree, Limits, Addition, kindOf, isAbsent, ancestors, member, sameKind, otherParent, currentParent, otherKind, updatedEdge, addTo, add}
 use Rattle.registry.proofs.layout.StoreBack.{Fits}
-
--- ---- refusals in order
-
-pub refusal-answer : {A : Type 0} {k : ℕ} {c : Carried} {v : A} → refusal k c ≡ answer v → ⊥
-refusal-answer e = let z : _≡_ {A = ℕ} 0 1 = cc e in omega arith
-
-pub refuse-answered : {A : Type 0} (test : Bool) (k : ℕ) (c : Carried) (next : Reply A) (v : A) → refuse test k c next ≡ answer v
-    → (test ≡ false) × (next ≡ answer v)
-refuse-answered true k c next v e = absurd (refusal-answer e)
-refuse-answered false k c next v e = (refl, e)
-
-pub then-answered : {A B : Type 0} (r : Reply A) (next : A → Reply B) (v : B) → (r then next) ≡ answer v
-    → (a : A) × (r ≡ answer a) × (next a ≡ answer v)
-then-answered (answer a) next v e = (a, refl, e)
-then-answered (refusal k c) next v e = absurd (refusal-answer e)
 
 -- ---- what the refusals 6 and 8 leave
 
@@ -67,9 +53,6 @@ pub record Accepted (L : Limits) (t : Tree) (a : Addition) (held : Option Edge) 
   pub room : (isAbsent held && leb (L .rows) (length t)) ≡ false
   pub few : length (updatedEdge (L .age) a held .samples) ≤ L .capacity
   pub left : u ≡ put (a .child) (updatedEdge (L .age) a held) t
-
-pub answer-in : {A : Type 0} {v w : A} → answer v ≡ answer w → v ≡ w
-answer-in e = cc e
 
 accepted-by : (L : Limits) (t : Tree) (a : Addition) (held : Option Edge) (u : Tree) → addTo L t a held ≡ answer u → Accepted L t a held u
 accepted-by L t a held u e =

@@ -14,6 +14,7 @@ use denote.Struct.Field.{Field}
 use denote.Enum.Declared.{tagOf}
 use Rattle.time.specs.Float.{_⊖_, one64, abs}
 use Rattle.time.specs.Reply.{Reply, Carried, answer, refusal, nothing, norm, frame, refuse, _then_}
+use Rattle.time.proofs.Replies.{refusal-answer}
 use Rattle.time.specs.declared.stamp.Stamp.{Stamp}
 use Rattle.geometry.specs.declared.isometry.Isometry.{Isometry}
 use Rattle.geometry.specs.declared.transform.Answer as geometry
@@ -32,7 +33,6 @@ use Rattle.registry.specs.Store.{Store, rowsIn, usedIn, limitsOf, treeOf
 use Rattle.registry.specs.addition.Adding.{poseTests, admits}
 use Rattle.registry.proofs.ReplyInjective.{replyInjective}
 use Rattle.registry.proofs.layout.TreeRows.{length-tree}
-use Rattle.registry.proofs.addition.Accepted.{refusal-answer}
 
 -- ---- 3 and 4
 

@@ -3,13 +3,13 @@ use mathlib.Core.Path.{_≡_, refl, sym, ap, _∙_}
 use mathlib.Core.Bool.{true, false, not}
 use mathlib.Core.List.{List, [], _∷_, _++_, append-assoc, append-nil}
 use Rattle.time.specs.Reply.{Reply, answer, refusal, nothing}
+use Rattle.time.proofs.Replies.{refuse-answered}
 use Rattle.buffer.proofs.Cases.{both, false-true}
 use Rattle.registry.specs.Tree.{Tree, Limits}
 use Rattle.registry.specs.Store.{Store, limitsOf, treeOf, stored, sized}
 use Rattle.registry.specs.Sound.{sound}
 use Rattle.registry.specs.Calls.{Outcome, written, onTree}
 use Rattle.registry.specs.History.{isAnswer, run, accepted}
-use Rattle.registry.proofs.addition.Accepted.{refuse-answered}
 use Rattle.registry.proofs.layout.StoreBack.{Fits, limits-back, tree-back}
 
 -- ---- a list of calls

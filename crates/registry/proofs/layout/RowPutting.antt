@@ -11,6 +11,7 @@ use lib.ListN.{length}
 use borrow.Author.Tests.{ltb-false}
 use borrow.Rule.Slice.PartMut.{putMid, put-same}
 use Rattle.time.specs.Reply.{Reply, answer, refusal, nothing}
+use Rattle.time.proofs.Replies.{refusal-answer}
 use Rattle.geometry.specs.declared.isometry.Isometry.{Isometry}
 use Rattle.buffer.specs.Samples.{Samples, insert}
 use Rattle.buffer.specs.Row.{RowOutcome, insertRow}
@@ -20,7 +21,6 @@ use Rattle.registry.specs.Store.{Store, capacityIn, ageIn, limitsOf, cou
 use Rattle.registry.specs.Answers.{done}
 use Rattle.registry.specs.Calls.{outcome, written}
 use Rattle.registry.specs.layout.Rows.{StoredRow, resampled, putInto}
-use Rattle.registry.proofs.addition.Accepted.{refusal-answer}
 use Rattle.registry.proofs.layout.RowParts.{Cut, instants-long, lentInstants, lentPoses, instants-lent, poses-lent}
 use Rattle.registry.proofs.layout.RowHolding.{row-holding}
 

@@ -4,6 +4,7 @@ use mathlib.Core.Path.{_≡_, refl, sym, ap, subst, _∙_}
 use mathlib.Core.Option.{Option, none, some, Option·map}
 use mathlib.Core.List.{List, []}
 use Rattle.time.specs.Reply.{Carried, Reply, answer, refusal, _then_}
+use Rattle.time.proofs.Replies.{refusal-answer}
 use Rattle.geometry.specs.declared.isometry.Isometry.{Isometry}
 use Rattle.buffer.specs.Map.{get}
 use Rattle.buffer.specs.Samples.{served}
@@ -13,7 +14,6 @@ use Rattle.registry.specs.Tree.{Edge, Tree}
 use Rattle.registry.specs.Path.{Hop, onto, fold}
 use Rattle.registry.specs.paths.Edges.{edgePose, poseRead}
 use Rattle.registry.specs.paths.Walks.{hopsTo}
-use Rattle.registry.proofs.addition.Accepted.{refusal-answer}
 use Rattle.registry.proofs.paths.Climbing.{edge-or, Grounded}
 use Rattle.registry.proofs.paths.SideHops.{ChildOf, hops-end, hops-up, hops-root}
 

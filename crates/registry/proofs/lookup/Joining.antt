@@ -1,11 +1,11 @@
--- inverse(target side) times source side, by what the inverse replies: 13, 14 or 3 where it refuses.
+-- inverse(target side) times source side, tested, by what the inverse replies: 13, 14 or 3 where it refuses. Of two empty sides it is the identity.
 use mathlib.Core.Path.{_≡_, refl, sym, ap, _∙_}
 use mathlib.Core.Bool.{Bool, true, false, not}
 use mathlib.Core.Option.{Option, none, some}
 use mathlib.Core.List.{[], _∷_}
 use Prim.Native.Nat.{ℕ}
 use native.Mathlib.Omega.{arith}
-use lib.Ieee.{lt}
+use lib.Ieee.{lt, ofBits}
 use lib.Ieee.Scale.{finite}
 use types.Run.{OneOf, miss}
 use denote.Enum.Declared.{tagOf}
@@ -18,11 +18,20 @@ use Rattle.geometry.specs.declared.transform.Answer.the-variants as transform
 use Rattle.geometry.specs.declared.vector3.Vector3.{Vector3}
 use Rattle.geometry.specs.Vector3 as vector
 use Rattle.geometry.specs.Quaternion.{norm, scale, conjugate, normalize, rotateVector, minusOne, epsilon}
-use Rattle.geometry.specs.Isometry.{inverseWithRotation, inverse}
+use Rattle.geometry.specs.Isometry.{identity, finite as finitePose, inverseWithRotation, inverse}
 use Rattle.geometry.specs.Answers as geometry
 use Rattle.geometry.proofs.transform.Answer.{the-type}
 use Rattle.registry.specs.Answers.{Value, pose}
-use Rattle.registry.specs.Path.{onto, joined}
+use Rattle.registry.specs.Path.{onto, joined, combined}
+
+-- the test of what comes out
+abbrev pub tested : Isometry → Reply Value
+tested out = finitePose out then λ p. answer (pose p)
+
+-- nothing is inverted and nothing overflows
+pub empty-sides : combined none none ≡ answer (pose identity)
+unfolding finitePose ofBits
+empty-sides = refl
 
 then-answer : {A : Type 0} (r : Reply A) → r ≡ (r then λ a. answer a)
 then-answer (answer a) = refl
@@ -34,13 +43,13 @@ joined-onto target (some source) = refl
 
 -- what the two sides reply, where the target's is not empty
 pub inverse-onto : (target : Isometry) (source : Option Isometry) (r : Reply Isometry) → r ≡ inverse target
-    → (r then λ back. answer (pose (onto back source))) ≡ (joined (some target) source then λ p. answer (pose p))
+    → (r then λ back. tested (onto back source)) ≡ combined (some target) source
 inverse-onto target source r e =
-    rw (joined-onto target source, ← e) (poses r)
+    rw (joined-onto target source, ← e) (outs r)
   where
-    poses : (r : Reply Isometry) → (r then λ back. answer (pose (onto back source))) ≡ ((r then λ back. answer (onto back source)) then λ p. answer (pose p))
-    poses (answer p) = refl
-    poses (refusal k c) = refl
+    outs : (r : Reply Isometry) → (r then λ back. tested (onto back source)) ≡ ((r then λ back. answer (onto back source)) then tested)
+    outs (answer p) = refl
+    outs (refusal k c) = refl
 
 -- ---- an inverse is refused by 13, 14 or 3 alone
 

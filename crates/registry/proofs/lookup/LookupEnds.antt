@@ -11,7 +11,7 @@ use Rattle.geometry.specs.declared.isometry.Isometry.{Isometry}
 use Rattle.registry.specs.declared.lookup.compose.Composed.{Composed}
 use Rattle.registry.specs.Tree.{Tree}
 use Rattle.registry.specs.Answers.{pose}
-use Rattle.registry.specs.Path.{Hop, fold, joined, lookupAlong, lookupApart}
+use Rattle.registry.specs.Path.{Hop, fold, combined, lookupAlong, lookupApart}
 use Rattle.registry.specs.paths.Walks.{hopsTo, askKnown}
 use Rattle.registry.specs.lookup.Sides.{composedReply}
 use Rattle.registry.proofs.paths.Climbing.{Grounded}
@@ -20,7 +20,7 @@ use Rattle.registry.proofs.paths.AskEnds.{ask-ends}
 
 -- both sides are folded before it is told whether they meet
 fold-both : (meets : Bool) (i : ℕ) (a b : List Hop)
-    → (fold none a i then λ p. fold none b i then λ q. cond meets (joined p q then λ r. answer (pose r)) (refusal 10 nothing))
+    → (fold none a i then λ p. fold none b i then λ q. cond meets (combined p q) (refusal 10 nothing))
     ≡ cond meets (lookupAlong i a b) (lookupApart i a b)
 fold-both true i a b = refl
 fold-both false i a b = refl
@@ -31,7 +31,7 @@ composed-is c v r e h = sym (ap composedReply e) ∙ h
 
 module _ (t : Tree) (gr : Grounded t) (f g x y i : ℕ) (ends : EndAt t f g x y) where
   pub lookup-ends : (a b : Reply (Option Isometry)) → a ≡ fold none (hopsTo t f x) i → b ≡ fold none (hopsTo t g y) i
-      → (a then λ p. b then λ q. cond (eqb x y) (joined p q then λ r. answer (pose r)) (refusal 10 nothing)) ≡ askKnown t f g (lookupAlong i) (lookupApart i)
+      → (a then λ p. b then λ q. cond (eqb x y) (combined p q) (refusal 10 nothing)) ≡ askKnown t f g (lookupAlong i) (lookupApart i)
   lookup-ends a b p q =
       rw (p, q) (fold-both (eqb x y) i (hopsTo t f x) (hopsTo t g y) ∙ sym (ask-ends (lookupAlong i) (lookupApart i) t f g gr x y ends))
 
@@ -39,5 +39,5 @@ module _ (t : Tree) (gr : Grounded t) (f g x y i : ℕ) (ends : EndAt t f g x y)
     pub lookup-apart : (x ≡ y → ⊥) → refusal 10 nothing ≡ askKnown t f g (lookupAlong i) (lookupApart i)
     lookup-apart ne = sym (rw (ne-eqb x y ne)) ∙ lookup-ends (answer a) (answer b) p q
 
-    pub lookup-meets : x ≡ y → (joined a b then λ r. answer (pose r)) ≡ askKnown t f g (lookupAlong i) (lookupApart i)
+    pub lookup-meets : x ≡ y → combined a b ≡ askKnown t f g (lookupAlong i) (lookupApart i)
     lookup-meets e = sym (rw (eq-eqb x y e)) ∙ lookup-ends (answer a) (answer b) p q

@@ -6,7 +6,6 @@ use mathlib.Core.Bool.{Bool, true}
 use mathlib.Core.Option.{Option, none, some}
 use mathlib.Core.List.{List, [], _∷_, _++_}
 use lib.Dec.{eqb}
-use borrow.Author.Tests.{eqb-true}
 use Rattle.time.specs.Reply.{Carried, nothing, frame, hop, Reply, answer, refusal, _then_}
 use Rattle.geometry.specs.declared.isometry.Isometry.{Isometry}
 use Rattle.geometry.specs.Isometry.{identity}
@@ -17,11 +16,12 @@ use Rattle.buffer.proofs.Maps.{rising-is}
 use Rattle.buffer.proofs.ServedLaws.{serves, served-answers, served-refuses}
 use Rattle.registry.specs.Tree.{Tree, member}
 use Rattle.registry.specs.Answers.{Value, pose, static}
-use Rattle.registry.specs.Path.{Hop, chain, hops, side, connected, known, ask, joined, lookupAlong, lookupApart, lookup, spans, meet, commonTime}
+use Rattle.registry.specs.Path.{Hop, chain, hops, side, connected, known, ask, combined, lookupAlong, lookupApart, lookup, spans, meet, commonTime}
 use Rattle.registry.specs.PathLaws.{Every, Rises, LookupRefusals, LookupFromAbove, Unknown, UnknownFrame}
 use Rattle.registry.specs.paths.Walks.{askKnown}
 use Rattle.registry.proofs.paths.Paths.{known-connected, ask-along, hops-pass, every-map}
-use Rattle.registry.proofs.Fits.{Fits, answered, refused, Only, other, on-cond, on-then, refusal-fits, never, ask-fits, Serves, fold-only, lookup-known, common-time-known}
+use Rattle.registry.proofs.lookup.Joining.{empty-sides}
+use Rattle.registry.proofs.Fits.{Fits, answered, refused, Only, other, on-cond, on-then, refusal-fits, never, finite-only, ask-fits, Serves, fold-only, lookup-known, common-time-known}
 
 -- every hop of such a tree is refused with 11 alone
 module _ (R : ℕ → Carried → Bool) (unserved : (child : ℕ) (range : Option (ℕ × ℕ)) → R 11 (hop child range) ≡ true) (i : ℕ) where
@@ -51,8 +51,8 @@ lookupRefusals t r f g i k c e =
 
 -- ---- from above
 
-abbrev eleven : ℕ → Carried → Bool
-eleven k c = eqb k 11
+abbrev fromAbove : ℕ → Carried → Bool
+fromAbove k c = member k (11 ∷ 3 ∷ [])
 
 above-connected : (t : Tree) (f g : ℕ) → member f (chain t g) ≡ true → connected t f g ≡ true
 unfolding connected
@@ -62,22 +62,21 @@ above-side : (t : Tree) (f g : ℕ) → member f (chain t g) ≡ true → side t
 unfolding side
 above-side t f g m = rw m
 
-uninverted : (i : ℕ) (b : List Hop) → Every (Serves eleven i) b → Only eleven (lookupAlong i [] b)
-uninverted i b s = on-then _ (fold-only eleven i none b s) kept
+uninverted : (i : ℕ) (b : List Hop) → Every (Serves fromAbove i) b → Only fromAbove (lookupAlong i [] b)
+uninverted i b s = on-then _ (fold-only fromAbove i none b s) kept
   where
-    kept : (y : Option Isometry) → Only eleven (joined none y then λ p. answer (pose p))
-    kept none = answered refl
-    kept (some p) = answered refl
+    kept : (y : Option Isometry) → Only fromAbove (combined none y)
+    kept none = on-then _ (finite-only fromAbove refl identity) (λ p. answered refl)
+    kept (some x) = on-then _ (finite-only fromAbove refl x) (λ p. answered refl)
 
 pub lookupFromAbove : LookupFromAbove
 unfolding lookup
 lookupFromAbove t r f g i k c n m e =
     let meet = above-connected t f g m in
-    eqb-true k 11
-    (refusal-fits {R = eleven} {Q = λ v. true}
-    (rw (ask-along (pose identity) (lookupAlong i) (lookupApart i) t f g (known-connected t f g n meet) refl meet, above-side t f g m)
-    (uninverted i (hops t (side t g f)) (hops-serve eleven (λ child range. refl) i t r (side t g f))))
-    e)
+    refusal-fits {R = fromAbove} {Q = λ v. true}
+    (rw (ask-along (pose identity) (lookupAlong i) (lookupApart i) t f g (known-connected t f g n meet) empty-sides meet, above-side t f g m)
+    (uninverted i (hops t (side t g f)) (hops-serve fromAbove (λ child range. refl) i t r (side t g f))))
+    e
 
 -- ---- 9
 

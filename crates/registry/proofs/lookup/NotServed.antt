@@ -21,12 +21,13 @@ use Rattle.buffer.proofs.RangeLaws.{within}
 use Rattle.buffer.proofs.ServedLaws.{served-static, served-inside, served-outside}
 use Rattle.registry.specs.Tree.{Tree, Limits}
 use Rattle.registry.specs.Answers.{Value, pose}
-use Rattle.registry.specs.Path.{Hop, chain, hops, side, connected, onto, fold, joined, lookupAlong, lookupApart, lookup}
+use Rattle.registry.specs.Path.{Hop, chain, hops, side, connected, onto, fold, combined, lookupAlong, lookupApart, lookup}
 use Rattle.registry.specs.Laws.{SoundTree}
 use Rattle.registry.specs.PathLaws.{path, Every, Ranged, Inside, Placed, asked, TwoKnown, LookupNotServed, LookupDisconnected}
 use Rattle.registry.specs.Replies.{ofPose, answers}
 use Rattle.registry.proofs.paths.Paths.{ask-along, ask-apart, hops-pass, every-here, every-unit, every-append, placed-behind}
-use Rattle.registry.proofs.Fits.{Fits, refused, other, never, posed-joined}
+use Rattle.registry.proofs.Fits.{Fits, refused, other, never, combined-fits}
+use Rattle.registry.proofs.lookup.Joining.{empty-sides}
 use Rattle.registry.proofs.ViewFixes.{single-row, row-rises}
 
 -- ---- one hop
@@ -121,7 +122,7 @@ module _ (age : Option ℕ) (capacity i : ℕ) where
 
   -- the target's hops are all served, with x for their product, and the source's, with y; or a hop fails
   pub data Walked (a b : List Hop) (last : Option Isometry → Option Isometry → Reply Value) (r : Reply Value) : Type 0 where
-    arrives : (x y : Option Isometry) → fold none a i ≡ answer x → r ≡ last x y → Every (Inside i) (a ++ b) → Walked a b last r
+    arrives : (x y : Option Isometry) → fold none a i ≡ answer x → fold none b i ≡ answer y → r ≡ last x y → Every (Inside i) (a ++ b) → Walked a b last r
     halts : (h : Hop) → r ≡ refusal 11 (hop (h .0) (range (h .1 .samples))) → Fails h (a ++ b) → Walked a b last r
 
   walked : (a b : List Hop) (last : Option Isometry → Option Isometry → Reply Value) → Every Sound a → Every Sound b
@@ -131,7 +132,7 @@ module _ (age : Option ℕ) (capacity i : ℕ) where
       by : Folded a (fold none a i) → Folded b (fold none b i) → Walked a b last (fold none a i then λ x. fold none b i then λ y. last x y)
       by (stops h e f) w = halts h (rw e) (fails-front h a b f)
       by (through x e k) (stops h z f) = halts h (rw (e, z)) (fails-back h a b k f)
-      by (through x e k) (through y z l) = arrives x y e (rw (e, z)) (every-append (Inside i) a b k l)
+      by (through x e k) (through y z l) = arrives x y e z (rw (e, z)) (every-append (Inside i) a b k l)
 
   module _ (a b : List Hop) (last : Option Isometry → Option Isometry → Reply Value) (r : Reply Value) where
     -- some hop fails, or none does
@@ -141,7 +142,7 @@ module _ (age : Option ℕ) (capacity i : ℕ) where
     eleven : ((x y : Option Isometry) → Fits (other 11) (answers ofPose) (last x y)) → Walked a b last r → (c : Carried)
         → (r ≡ refusal 11 c)
         ↔ ((h : Hop) × (c ≡ hop (h .0) (range (h .1 .samples))) × (Inside i h → ⊥) × Placed (Inside i) h (λ x. Unit {0}) (a ++ b))
-    eleven rest (arrives x y q e k) c = (
+    eleven rest (arrives x y p q e k) c = (
       λ z. absurd (never (rest x y) (sym e ∙ z)),
       λ z. absurd (not-both (z .0) k (record { outside = z .2; placed = z .3 })),
     )
@@ -154,25 +155,22 @@ module _ (age : Option ℕ) (capacity i : ℕ) where
 
 -- ---- the laws
 
-abbrev pub alongLast : Option Isometry → Option Isometry → Reply Value
-alongLast x y = joined x y then λ p. answer (pose p)
-
 module _ (L : Limits) (t : Tree) (s : SoundTree L t) (f g : ℕ) (k : TwoKnown t f g) (i : ℕ) where
   hops-sound : (xs : List ℕ) → Every (Sound (L .age) (L .capacity) i) (hops t xs)
   hops-sound xs = hops-pass (λ x. instantsSound (L .age) (L .capacity) (x .1 .kind) (x .1 .samples)) t (s .rises) (s .instants) xs
 
   lookup-along : connected t f g ≡ true → lookup t f g i ≡ lookupAlong i (hops t (side t f g)) (hops t (side t g f))
   unfolding lookup
-  lookup-along m = ask-along (pose identity) (lookupAlong i) (lookupApart i) t f g k refl m
+  lookup-along m = ask-along (pose identity) (lookupAlong i) (lookupApart i) t f g k empty-sides m
 
   lookup-apart : connected t f g ≡ false → lookup t f g i ≡ lookupApart i (hops t (chain t f)) (hops t (chain t g))
   unfolding lookup
   lookup-apart m = ask-apart (pose identity) (lookupAlong i) (lookupApart i) t f g k m
 
-  pub on-path : connected t f g ≡ true → Walked (L .age) (L .capacity) i (hops t (side t f g)) (hops t (side t g f)) alongLast (lookup t f g i)
+  pub on-path : connected t f g ≡ true → Walked (L .age) (L .capacity) i (hops t (side t f g)) (hops t (side t g f)) combined (lookup t f g i)
   on-path m =
       rw (lookup-along m)
-      (walked (L .age) (L .capacity) i (hops t (side t f g)) (hops t (side t g f)) alongLast (hops-sound (side t f g)) (hops-sound (side t g f)))
+      (walked (L .age) (L .capacity) i (hops t (side t f g)) (hops t (side t g f)) combined (hops-sound (side t f g)) (hops-sound (side t g f)))
 
   pub off-path : connected t f g ≡ false → Walked (L .age) (L .capacity) i (hops t (chain t f)) (hops t (chain t g)) (λ x y. refusal 10 nothing) (lookup t f g i)
   off-path m =
@@ -185,8 +183,8 @@ lookupNotServed L t s f g k i c =
     both (connected t f g)
     (λ m.
     rw m
-    (eleven (L .age) (L .capacity) i (hops t (side t f g)) (hops t (side t g f)) alongLast (lookup t f g i)
-    (posed-joined (other 11) refl refl refl) (on-path L t s f g k i m) c))
+    (eleven (L .age) (L .capacity) i (hops t (side t f g)) (hops t (side t g f)) combined (lookup t f g i)
+    (combined-fits (other 11) refl refl refl) (on-path L t s f g k i m) c))
     (λ m.
     rw m
     (eleven (L .age) (L .capacity) i (hops t (chain t f)) (hops t (chain t g)) (λ x y. refusal 10 nothing) (lookup t f g i)
@@ -196,12 +194,12 @@ eleven-ten : {r : Reply Value} {c d : Carried} → r ≡ refusal 11 c → r ≡ 
 eleven-ten p q = let z : _≡_ {A = ℕ} 11 10 = cc in omega arith
 
 module _ (age : Option ℕ) (capacity i : ℕ) (a b : List Hop) (r : Reply Value) (c : Carried) where
-  connected-ten : Walked age capacity i a b alongLast r → r ≡ refusal 10 c → ⊥
-  connected-ten (arrives x y q e k) z = never (posed-joined (other 10) refl refl refl x y) (sym e ∙ z)
+  connected-ten : Walked age capacity i a b combined r → r ≡ refusal 10 c → ⊥
+  connected-ten (arrives x y p q e k) z = never (combined-fits (other 10) refl refl refl x y) (sym e ∙ z)
   connected-ten (halts h e f) z = eleven-ten e z
 
   ten : Walked age capacity i a b (λ x y. refusal 10 nothing) r → (r ≡ refusal 10 c) ↔ ((c ≡ nothing) × Every (Inside i) (a ++ b))
-  ten (arrives x y q e k) = (λ z. ((cc), k), λ z. e ∙ ap (refusal 10) (sym (z .0)))
+  ten (arrives x y p q e k) = (λ z. ((cc), k), λ z. e ∙ ap (refusal 10) (sym (z .0)))
   ten (halts h e f) = (
     λ z. absurd (eleven-ten e z),
     λ z. absurd (not-both age capacity i a b (λ x y. refusal 10 nothing) r h (z .1) f),

@@ -4,6 +4,7 @@ use mathlib.Core.Path.{_≡_, sym, ap, _∙_}
 use mathlib.Core.Bool.{not}
 use borrow.Author.Tests.{not-false}
 use Rattle.time.specs.Reply.{Reply, answer, nothing}
+use Rattle.time.proofs.Replies.{refuse-answered}
 use Rattle.registry.specs.Tree.{Tree, Limits, add, wipe}
 use Rattle.registry.specs.Store.{Store, limitsOf, treeOf, stored, sized}
 use Rattle.registry.specs.Sound.{sound, SoundStore}
@@ -14,7 +15,6 @@ use Rattle.registry.specs.History.{isAnswer}
 use Rattle.registry.specs.Laws.{InRange, SoundTree}
 use Rattle.registry.specs.Path.{lookup, commonTime}
 use Rattle.registry.specs.PathLaws.{SameAnswers, SameReplies, CallsPathLaw, CallsPathLawWipe}
-use Rattle.registry.proofs.addition.Accepted.{refuse-answered}
 use Rattle.registry.proofs.histories.Runs.{writtenTo, written-answered, on-tree}
 use Rattle.registry.proofs.layout.StoreBack.{tree-back}
 use Rattle.registry.proofs.soundness.SoundEdges.{sound-fits}

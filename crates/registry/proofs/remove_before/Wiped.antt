@@ -7,6 +7,7 @@ use native.Mathlib.Omega.{arith}
 use lib.Dec.{ltb}
 use borrow.Author.Tests.{le-leb, lt-leb, ltb-true, ltb-false}
 use Rattle.time.specs.Reply.{answer}
+use Rattle.time.proofs.Replies.{answer-in}
 use Rattle.buffer.specs.declared.kind.Kind.{Kind}
 use Rattle.buffer.specs.declared.kind.Kind.the-variants.{Static, Dynamic}
 use Rattle.buffer.specs.Map.{get, put}
@@ -15,7 +16,6 @@ use Rattle.buffer.proofs.Cases.{both}
 use Rattle.buffer.proofs.SampleLaws.{get-removeBefore}
 use Rattle.registry.specs.Tree.{Edge, Tree, wiped, wipe}
 use Rattle.registry.specs.AsMap.{moving}
-use Rattle.registry.proofs.addition.Accepted.{answer-in}
 
 pub record Wiped (t : Tree) (f i : ℕ) (u : Tree) : Type 0 where
   pub edge : Edge

@@ -1,4 +1,5 @@
-// The poses of a path's two sides, composed while climbing.
+// The poses of a path's two sides, composed while climbing by steps whose results are not tested: 3 is told of what
+// comes out of them all, after every other refusal.
 use crate::answer::Answer;
 use crate::answer::Covered;
 use crate::paths::edges;
@@ -8,10 +9,11 @@ use geometry::transform;
 ghost use mathlib.Core.Path.{_≡_};
 ghost use mathlib.Core.Option.{none};
 ghost use Rattle.time.specs.Reply.{answer, _then_};
+ghost use Rattle.geometry.specs.Isometry.{finite};
 ghost use Rattle.registry.specs.Store.{treeOf};
 ghost use Rattle.registry.specs.Answers.{pose, replyOf};
 ghost use Rattle.registry.specs.Calls.{storeOf};
-ghost use Rattle.registry.specs.Path.{onto, fold, joined};
+ghost use Rattle.registry.specs.Path.{onto, fold, joined, combined};
 ghost use Rattle.registry.specs.lookup.Sides.{sideOf, composedReply};
 ghost use Rattle.registry.specs.paths.Walks.{hopsTo, WalkablePoses};
 
@@ -34,7 +36,7 @@ fn onto(pose: Isometry, side: Side) -> Isometry
     let Side::Product(below) = side else {
         return pose;
     };
-    pose.mul(below)
+    pose.product(below)
 }
 
 // From the frame up to the frame `top`, or to the root.
@@ -74,15 +76,25 @@ fn alone(side: Side) -> Isometry
     pose
 }
 
-// inverse(target side) times source side; an empty side is left out.
+// What comes out of a lookup, where it is finite.
+fn finite(result: Isometry) -> Answer
+    ensures { λ r. ⌜ replyOf r ≡ (finite result then λ p. answer (pose p)) ⌝ }
+{
+    if result.is_finite() {
+        return Answer::Pose(result);
+    }
+    Answer::NonFiniteValues
+}
+
+// inverse(target side) times source side, tested; an empty side is left out.
 pub(crate) fn combine_transforms(target: Side, source: Side) -> Answer
-    ensures { λ r. ⌜ replyOf r ≡ (joined (sideOf target) (sideOf source) then λ p. answer (pose p)) ⌝ }
+    ensures { λ r. ⌜ replyOf r ≡ combined (sideOf target) (sideOf source) ⌝ }
 {
     let Side::Product(side) = target else {
-        return Answer::Pose(alone(source));
+        return finite(alone(source));
     };
     match side.inverse() {
-        transform::Answer::Pose(back) => Answer::Pose(onto(back, source)),
+        transform::Answer::Pose(back) => finite(onto(back, source)),
         transform::Answer::NonFinite => Answer::NonFinite,
         transform::Answer::ZeroLengthNormalization => Answer::ZeroLengthNormalization,
         _ => Answer::NonFiniteValues,

@@ -6,13 +6,13 @@ use crate::search;
 use crate::search::Found;
 use buffer::coverage::Coverage;
 use buffer::get;
-use buffer::get::Got;
+use buffer::get::Served;
 use geometry::isometry::Isometry;
 ghost use mathlib.Core.Path.{_≡_};
 ghost use mathlib.Core.List.{List, []};
 ghost use lib.Ieee.{Float};
 ghost use Prim.Native.Nat.{ℕ};
-ghost use Rattle.buffer.specs.Answers.{gotReply};
+ghost use Rattle.buffer.specs.Answers.{servedReply};
 ghost use Rattle.buffer.specs.Samples.{served, coverage};
 ghost use Rattle.registry.specs.Store.{edgeAt, treeOf};
 ghost use Rattle.registry.specs.Calls.{storeOf};
@@ -35,7 +35,7 @@ pub(crate) fn parent_of(head: &[u64], frame: u64) -> Parent
     }
 }
 
-// A frame's pose at an instant, and its parent.
+// A frame's pose at an instant, which need not be finite, and its parent.
 pub(crate) enum HopPose {
     Root,
     Pose(Isometry, u64),
@@ -43,9 +43,9 @@ pub(crate) enum HopPose {
 }
 
 // The pose of the edge that row r holds.
-fn row_pose(head: &[u64], instants: &[u64], poses: &[f64], r: usize, t: u64) -> Got
+fn row_pose(head: &[u64], instants: &[u64], poses: &[f64], r: usize, t: u64) -> Served
     requires { ⌜ HeldRow (storeOf (now head) (now instants) (now poses)) r ⌝ }
-    ensures { λ g. ⌜ ((child : ℕ) → gotReply child g
+    ensures { λ g. ⌜ ((child : ℕ) → servedReply child g
         ≡ (let e = edgeAt (storeOf (now (head .entry)) (now (instants .entry)) (now (poses .entry))) r in served child (e .kind) (e .samples) t)) ⌝ }
 {
     let capacity = layout::capacity(head) as usize;
@@ -53,7 +53,7 @@ fn row_pose(head: &[u64], instants: &[u64], poses: &[f64], r: usize, t: u64) -> 
     let count = layout::count_at(head, r) as usize;
     let held_instants = layout::row_instants(instants, capacity, r);
     let held_poses = layout::row_poses(poses, capacity, r);
-    get::get(held_instants, held_poses, kind, count, t)
+    get::serve(held_instants, held_poses, kind, count, t)
 }
 
 pub(crate) fn pose_of(head: &[u64], instants: &[u64], poses: &[f64], frame: u64, t: u64) -> HopPose
@@ -64,9 +64,9 @@ pub(crate) fn pose_of(head: &[u64], instants: &[u64], poses: &[f64], frame: u64,
         return HopPose::Root;
     };
     match row_pose(head, instants, poses, row, t) {
-        Got::Pose(pose) => HopPose::Pose(pose, layout::parent_at(head, row)),
-        Got::OutOfRange { start, end } => HopPose::NotFoundAt(Covered::Range { start, end }),
-        Got::NoTransformAvailable => HopPose::NotFoundAt(Covered::Nothing),
+        Served::Pose(pose) => HopPose::Pose(pose, layout::parent_at(head, row)),
+        Served::OutOfRange { start, end } => HopPose::NotFoundAt(Covered::Range { start, end }),
+        Served::NoTransformAvailable => HopPose::NotFoundAt(Covered::Nothing),
     }
 }
 

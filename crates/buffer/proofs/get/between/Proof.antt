@@ -13,25 +13,25 @@ read-pose-requires c κs = search needs
 read-pose-requires-2 : tie.Need-read-pose-requires-2
 read-pose-requires-2 c κs = search needs
 
-mul-interpolate : tie.Need-mul-interpolate
-mul-interpolate c = search needs
+mul-interpolated : tie.Need-mul-interpolated
+mul-interpolated c = search needs
 
-shared-slice-read-interpolate : tie.Need-shared-slice-read-interpolate
-shared-slice-read-interpolate c = search needs
+shared-slice-read-interpolated : tie.Need-shared-slice-read-interpolated
+shared-slice-read-interpolated c = search needs
 
-mul-interpolate-2 : tie.Need-mul-interpolate-2
-mul-interpolate-2 c = search needs
+mul-interpolated-2 : tie.Need-mul-interpolated-2
+mul-interpolated-2 c = search needs
 
-shared-slice-read-interpolate-2 : tie.Need-shared-slice-read-interpolate-2
-shared-slice-read-interpolate-2 c = search needs
+shared-slice-read-interpolated-2 : tie.Need-shared-slice-read-interpolated-2
+shared-slice-read-interpolated-2 c = search needs
 
-interpolate-requires : tie.Need-interpolate-requires
-interpolate-requires c κs = search needs
+interpolated-requires : tie.Need-interpolated-requires
+interpolated-requires c κs = search needs
 
 returns : tie.Need-returns
 returns c =
     let second = c .before .before .before in
-    rw (sym (second .before .read-pose .ensures), sym (second .read-pose2 .ensures)) (c .interpolate .ensures)
+    rw (sym (second .before .read-pose .ensures), sym (second .read-pose2 .ensures)) (c .interpolated .ensures)
 
 pub between-spec : {M : Type 1} → statement M
 between-spec =
@@ -40,9 +40,9 @@ between-spec =
     sub-before
     read-pose-requires
     read-pose-requires-2
-    mul-interpolate
-    shared-slice-read-interpolate
-    mul-interpolate-2
-    shared-slice-read-interpolate-2
-    interpolate-requires
+    mul-interpolated
+    shared-slice-read-interpolated
+    mul-interpolated-2
+    shared-slice-read-interpolated-2
+    interpolated-requires
     returns)

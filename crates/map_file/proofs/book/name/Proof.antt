@@ -7,6 +7,7 @@ use lib.ListN.{take, drop}
 use types.Run.{OneOf, miss}
 use denote.Enum.Declared.{tagOf}
 use borrow.Author.Needs.{needs}
+use Rattle.time.proofs.Replies.{refusal-answer, answer-in}
 use Rattle.buffer.proofs.Cases.{none-some}
 use Rattle.map_file.specs.Book.{nameIn, partIn}
 use Rattle.map_file.specs.Answers.{partRead, handedBack}
@@ -14,7 +15,6 @@ use Rattle.map_file.specs.Laws.{IsName}
 use Rattle.map_file.specs.declared.book.Named.{Named}
 use Rattle.map_file.specs.declared.book.Named.the-variants as name
 use Rattle.map_file.proofs.ByteLists.{bytes-known}
-use Rattle.map_file.proofs.FileBytes.{answer-is, refusal-no}
 use Rattle.map_file.proofs.PartIsName.{partIsName, no-name}
 use Rattle.map_file.proofs.book.Named.{the-type}
 use Rattle.map_file.proofs.book.name.Statement.{statement}
@@ -23,8 +23,8 @@ use Rattle.map_file.proofs.book.name.Tie as tie
 -- what is not a part has no bytes
 nothing-back : (bytes : List ℕ) (frame : ℕ) (r : Named) → OneOf (1 ∷ 2 ∷ []) (tagOf the-type r) → partRead r ≡ partIn bytes frame → handedBack (nameIn bytes frame) ≡ []
 nothing-back bytes frame (name.Part start count) h e = absurd (miss (1 ∷ 2 ∷ []) 0 tt h)
-nothing-back bytes frame name.Nothing h e = no-name bytes frame (λ part q. none-some (answer-is (e ∙ q)))
-nothing-back bytes frame name.MapForm h e = no-name bytes frame (λ part q. refusal-no (e ∙ q))
+nothing-back bytes frame name.Nothing h e = no-name bytes frame (λ part q. none-some (answer-in (e ∙ q)))
+nothing-back bytes frame name.MapForm h e = no-name bytes frame (λ part q. refusal-answer (e ∙ q))
 
 -- the part lies within the file, and its bytes are the name
 is-name : (c : tie.After-known-told) → (let k = c .before .before .before in let a = k .before .before .args in IsName (a .map .now) (a .frame) (c .before .start .given .0 .0) (c .before .start .given .0 .1 .0))

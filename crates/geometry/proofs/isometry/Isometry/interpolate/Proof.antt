@@ -1,53 +1,38 @@
-use mathlib.Core.Path.{ap}
+use mathlib.Core.Path.{sym, _∙_}
 use borrow.Author.Needs.{needs}
-use Rattle.time.specs.Reply.{answer}
-use Rattle.geometry.specs.Isometry.{interpolate}
+use Rattle.geometry.specs.Isometry.{finite, interpolate}
+use Rattle.geometry.proofs.NoPose.{no-pose, only-reversed}
 use Rattle.geometry.proofs.isometry.Isometry.interpolate.Statement.{statement}
 use Rattle.geometry.proofs.isometry.Isometry.interpolate.Tie as tie
 
-share-requires : tie.Need-share-requires
-share-requires c κs = search needs
+interpolated-requires : tie.Need-interpolated-requires
+interpolated-requires c κs = search needs
 
-enum-told : tie.Need-enum-told
-enum-told c = search needs
-
-enum-told-2 : tie.Need-enum-told-2
-enum-told-2 c = search needs
-
-enum-known-ratio : tie.Need-enum-known-ratio
-enum-known-ratio c = search needs
-
-between-requires : tie.Need-between-requires
-between-requires c κs = search needs
+enum-known-pose : tie.Need-enum-known-pose
+enum-known-pose c = search needs
 
 returns : tie.Need-returns
 unfolding interpolate
 returns c =
-    let at = c .before .before in
-    rw (← at .share .ensures, c .enum-told .given .1)
+    let at = c .before in
+    let (k, carried, e) = no-pose (at .interpolated .result) (c .match .keys2) in
+    rw (only-reversed _ _ _ _ _ k carried (sym (at .interpolated .ensures) ∙ e))
+
+is-finite-requires : tie.Need-is-finite-requires
+is-finite-requires c κs = search needs
 
 returns-2 : tie.Need-returns-2
-unfolding interpolate
+unfolding interpolate finite
 returns-2 c =
-    let at = c .before .before in
-    rw (← at .share .ensures, c .enum-told2 .given .1)
+    let known = c .before .before .before in
+    rw (← known .before .before .interpolated .ensures, known .pose .given .1, ← c .before .is-finite .ensures) (simp (c .if1 .taken))
 
 returns-3 : tie.Need-returns-3
-unfolding interpolate
+unfolding interpolate finite
 returns-3 c =
-    let at-ratio = c .before .before in
-    let at = at-ratio .before .before in
-    rw (← at .share .ensures, at-ratio .ratio .given .1) (ap answer (c .between .ensures))
+    let known = c .before .before .before in
+    rw (← known .before .before .interpolated .ensures, known .pose .given .1, ← c .before .is-finite .ensures) (simp (c .if1 .left))
 
 pub interpolate-spec : {M : Type 1} → statement M
 interpolate-spec =
-    tie.close
-    (tie.spec
-    share-requires
-    enum-told
-    enum-told-2
-    enum-known-ratio
-    between-requires
-    returns
-    returns-2
-    returns-3)
+    tie.close (tie.spec interpolated-requires enum-known-pose returns is-finite-requires returns-2 returns-3)

@@ -3,7 +3,7 @@ use mathlib.Core.Path.{sym, ap, _∙_}
 use Rattle.geometry.specs.Answers as geometry
 use Rattle.registry.specs.Path.{onto}
 use Rattle.registry.specs.lookup.Sides.{sideOf}
-use Rattle.registry.proofs.lookup.Joining.{inverse-onto, inverse-left}
+use Rattle.registry.proofs.lookup.Joining.{tested, inverse-onto, inverse-left}
 use borrow.Author.Needs.{needs}
 use Rattle.registry.proofs.lookup.compose.combine_transforms.Statement.{statement}
 use Rattle.registry.proofs.lookup.compose.combine_transforms.Tie as tie
@@ -17,8 +17,11 @@ enum-told c = search needs
 alone-requires : tie.Need-alone-requires
 alone-requires c κs = search needs
 
+finite-requires : tie.Need-finite-requires
+finite-requires c κs = search needs
+
 returns : tie.Need-returns
-returns c = rw (c .before .enum-told .given .1, ← c .alone .ensures)
+returns c = rw (c .before .before .enum-told .given .1, ← c .before .alone .ensures) (c .finite .ensures)
 
 inverse-requires : tie.Need-inverse-requires
 inverse-requires c κs = search needs
@@ -29,6 +32,9 @@ enum-known-back c = search needs
 onto-requires : tie.Need-onto-requires
 onto-requires c κs = search needs
 
+finite-requires-2 : tie.Need-finite-requires-2
+finite-requires-2 c κs = search needs
+
 enum-told-2 : tie.Need-enum-told-2
 enum-told-2 c = search needs
 
@@ -37,11 +43,13 @@ enum-told-3 c = search needs
 
 returns-2 : tie.Need-returns-2
 returns-2 c =
-    let k = c .before .before in
+    let k = c .before .before .before in
     let t = k .before .before .before .before in
     let s = t .before .before in
-    rw (t .target .given .1, c .onto .ensures)
-    (inverse-onto (t .target .given .0 .0) (sideOf (s .args .source)) _ (sym (ap geometry.replyOf (k .back .given .1)) ∙ k .before .before .inverse .ensures))
+    rw (t .target .given .1)
+    (c .finite2 .ensures
+    ∙ ap tested (c .before .onto .ensures)
+    ∙ inverse-onto (t .target .given .0 .0) (sideOf (s .args .source)) _ (sym (ap geometry.replyOf (k .back .given .1)) ∙ k .before .before .inverse .ensures))
 
 returns-3 : tie.Need-returns-3
 returns-3 c =
@@ -71,10 +79,12 @@ combine-transforms-spec =
     enum-known-target
     enum-told
     alone-requires
+    finite-requires
     returns
     inverse-requires
     enum-known-back
     onto-requires
+    finite-requires-2
     enum-told-2
     enum-told-3
     returns-2

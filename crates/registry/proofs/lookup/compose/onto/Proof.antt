@@ -13,11 +13,11 @@ enum-told c = search needs
 returns : tie.Need-returns
 returns c = search needs
 
-mul-requires : tie.Need-mul-requires
-mul-requires c κs = search needs
+product-requires : tie.Need-product-requires
+product-requires c κs = search needs
 
 returns-2 : tie.Need-returns-2
-returns-2 c = rw (c .before .before .side .given .1) (c .mul .ensures)
+returns-2 c = rw (c .before .before .side .given .1) (c .product .ensures)
 
 pub onto-spec : {M : Type 1} → statement M
-onto-spec = tie.close (tie.spec enum-known-side enum-told returns mul-requires returns-2)
+onto-spec = tie.close (tie.spec enum-known-side enum-told returns product-requires returns-2)

@@ -22,8 +22,8 @@ row-poses-requires c κs =
     let k = c .before .before .before in
     rw (k .capacity .ensures) (k .before .before .before .before .pre .part .poses)
 
-get-requires : tie.Need-get-requires
-get-requires c κs =
+serve-requires : tie.Need-serve-requires
+serve-requires c κs =
     let n = c .before .before in
     let k = n .before .before in
     rw (n .count-at .ensures, c .before .row-instants .ensures, c .row-poses .ensures, k .capacity .ensures) (k .before .before .before .before .pre .held)
@@ -31,7 +31,7 @@ get-requires c κs =
 returns : tie.Need-returns
 returns c child =
     let n = c .before .before .before in
-    c .get .ensures child
+    c .serve .ensures child
     ∙ rw (n .before .row-kind .ensures, n .count-at .ensures, c .before .before .row-instants .ensures, c .before .row-poses .ensures, n .before .before .capacity .ensures)
 
 pub row-pose-spec : {M : Type 1} → statement M
@@ -43,5 +43,5 @@ row-pose-spec =
     count-at-requires
     row-instants-requires
     row-poses-requires
-    get-requires
+    serve-requires
     returns)
