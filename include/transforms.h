@@ -246,7 +246,7 @@ transforms_frame_answer transforms_map_frame(const uint8_t *map, size_t map_len,
 transforms_name_answer transforms_map_name(const uint8_t *map, size_t map_len, uint32_t frame);
 
 /* The product: b, given in a's frame, seen from a's parent. Refuses: 3, where a component of the product is not finite.
- * Before version 0.2.0 it returned the pose itself, finite or not. Cost: 20 ns. */
+ * Before version 0.2.0 it returned the pose itself, finite or not. Cost: 20 to 30 ns. */
 transforms_answer transforms_mul(transforms_isometry a, transforms_isometry b);
 
 /* The inverse: the parent's frame, seen from the pose's own. Refuses: 13, 14, 3. Cost: 52 ns. */
