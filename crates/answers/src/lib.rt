@@ -1,5 +1,7 @@
 // The answers of the text protocol: the text of what is replied, in a lent buffer.
 // No public function has a `requires`.
+#![tactic(auto)]
+
 mod maps;
 mod write;
 

@@ -1,4 +1,6 @@
 // One frame's history over its part of the lent slices, from src/core/buffer of the Rust.
+#![tactic(auto)]
+
 pub mod coverage;
 pub mod get;
 pub mod insert;

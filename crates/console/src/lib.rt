@@ -1,5 +1,7 @@
 // What the programs say to people: figures, refusals in words, lookups explained, pictures of the tree. Each function
 // writes into a lent buffer the text that specs/ define. And how the programs read and write, so that no answer is lost.
+#![tactic(auto)]
+
 pub mod dot;
 mod edges;
 pub mod figures;

@@ -9,7 +9,7 @@ use super::vector3::Vector3;
 
 // A rotation followed by a translation.
 #[repr(C)]
-#[derive(Drop)]
+#[derive(Clone, Copy)]
 pub struct Isometry {
     pub translation: Vector3,
     pub rotation: Quaternion,

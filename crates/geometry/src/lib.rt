@@ -1,4 +1,6 @@
 // Vectors, rotations and poses of f64, from src/geometry of the Rust.
+#![tactic(auto)]
+
 pub mod isometry;
 pub mod quaternion;
 pub mod transform;

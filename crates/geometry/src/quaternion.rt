@@ -8,7 +8,7 @@ use libm::float::{EPSILON, clamp, is_finite};
 use libm::{acos, sin, sqrt};
 
 #[repr(C)]
-#[derive(Drop)]
+#[derive(Clone, Copy)]
 pub struct Quaternion {
     pub w: f64,
     pub x: f64,
@@ -17,7 +17,7 @@ pub struct Quaternion {
 }
 
 // A rotation of norm 1, or why there is none.
-#[derive(Drop)]
+#[derive(Clone, Copy)]
 pub enum Normalized {
     Rotation(Quaternion),
     NonFinite,

@@ -5,7 +5,7 @@ ghost use Rattle.geometry.specs.Vector3.{zero_vector, add, scale, is_finite};
 use libm::float::is_finite;
 
 #[repr(C)]
-#[derive(Drop)]
+#[derive(Clone, Copy)]
 pub struct Vector3 {
     pub x: f64,
     pub y: f64,

@@ -1,4 +1,6 @@
 // What the Rust takes from its crate `libm` and from f64 itself.
+#![tactic(auto)]
+
 pub mod float;
 pub mod root;
 mod terms;

@@ -1,4 +1,6 @@
 // `map FILE` shows a rig maker the frames of his map file as an indented tree, or why the file is refused.
+#![tactic(auto)]
+
 mod files;
 mod frames;
 mod lines;

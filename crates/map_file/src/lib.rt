@@ -1,4 +1,6 @@
 // A map file that is lent: its form, its records and the book of its names. The file is never written.
+#![tactic(auto)]
+
 pub mod book;
 pub mod form;
 pub mod record;

@@ -1,4 +1,6 @@
 // Loading a customer's map: the records of a lent file added to a store that holds no frame.
+#![tactic(auto)]
+
 pub mod answer;
 pub mod load_map;
 mod names;

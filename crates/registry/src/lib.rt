@@ -2,6 +2,8 @@
 // files of their own. Each is the tests of 1 and 2 (`check`) and then a function on a store that has
 // passed them (`checked`), over the parts: the layout of the words, the search for a frame's row,
 // soundness, paths, addition, lookup and latest common time.
+#![tactic(auto)]
+
 pub mod add;
 mod addition;
 pub mod answer;

@@ -1,5 +1,7 @@
 // The words of the text protocol: read from a line, and written into a lent buffer. No public function has a
 // `requires`: each tests its own bounds.
+#![tactic(auto)]
+
 mod decimal;
 mod read;
 mod write;

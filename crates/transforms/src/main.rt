@@ -1,4 +1,6 @@
 // Speaks the text protocol on standard input and output: a line for an operation, a line for its answer.
+#![tactic(auto)]
+
 mod input;
 mod maps;
 mod memory;

@@ -1,4 +1,6 @@
 // The calls, the pose operations and the lengths for C, as include/transforms.h declares them.
+#![tactic(auto)]
+
 pub mod answer;
 mod flags;
 mod flat;
