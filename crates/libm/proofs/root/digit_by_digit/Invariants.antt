@@ -1,0 +1,12 @@
+use mathlib.Core.Path.{◌≡◌, refl, sym, ap, ◌∙◌}
+use Prim.Native.Nat.{ℕ, ◌+◌, ◌*◌}
+use native.Mathlib.Omega.{arith}
+use native.Mathlib.Nat.{mul-one, zero-add}
+use Rattle.libm.proofs.RootDigits.{Turn, digit_one, digit_zero, last_bit}
+use Rattle.libm.proofs.root.digit_by_digit.Given as goal
+
+abbrev pub invariant-loop-bit : goal.invariant-loop-bit
+invariant-loop-bit l = Turn l.n l.root l.rest l.bit
+
+abbrev pub decreases-loop-bit : goal.decreases-loop-bit
+decreases-loop-bit l = l.bit
