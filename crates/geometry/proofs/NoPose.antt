@@ -1,10 +1,7 @@
 -- An answer that is no pose is a refusal; of the steps of an interpolation it is 15.
 use Prim.Native.Nat.{ℕ, ◌-◌}
 use mathlib.Core.Path.{◌≡◌, refl, sym}
-use mathlib.Core.List.{[], ◌∷◌}
 use lib.Dec.{eqb, ltb}
-use types.Run.{OneOf, miss}
-use denote.Enum.Declared.{tag_of}
 use Rattle.time.specs.Reply.{Carried, refusal, nothing}
 use Rattle.time.specs.Timestamp.{share}
 use Rattle.time.proofs.Replies.{refusal_answer}
@@ -13,11 +10,10 @@ use Rattle.geometry.specs.declared.transform.Answer.{Answer}
 use Rattle.geometry.specs.declared.transform.Answer.TheVariants as transform
 use Rattle.geometry.specs.Answers.{reply_of}
 use Rattle.geometry.specs.Isometry.{interpolated}
-use Rattle.geometry.specs.contracts.transform.Answer.{the_type}
 use Rattle.geometry.proofs.Order.{both}
 
-pub no_pose_lem : (r : Answer) → OneOf (1 ∷ 2 ∷ 3 ∷ 4 ∷ 5 ∷ []) (tag_of the_type r) → (k : ℕ) × (c : Carried) × (reply_of r ≡ refusal k c)
-no_pose_lem (transform.Pose a) h = absurd (miss (1 ∷ 2 ∷ 3 ∷ 4 ∷ 5 ∷ []) 0 tt h)
+pub no_pose_lem : (r : Answer) → ((p : Isometry) → r ≡ transform.Pose p → ⊥) → (k : ℕ) × (c : Carried) × (reply_of r ≡ refusal k c)
+no_pose_lem (transform.Pose a) h = absurd (h a refl)
 no_pose_lem transform.NonFiniteValues h = (_, _, refl)
 no_pose_lem (transform.NonUnitRotation n) h = (_, _, refl)
 no_pose_lem transform.NonFinite h = (_, _, refl)

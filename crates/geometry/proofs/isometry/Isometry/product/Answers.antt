@@ -1,0 +1,8 @@
+use mathlib.Core.Path.{refl}
+use borrow.Author.Rules.{rules}
+use Rattle.geometry.specs.Isometry.{product}
+use Rattle.geometry.proofs.isometry.Isometry.product.Goals as goal
+
+pub returns : goal.returns
+unfolding product
+returns c = rw (c.mul.ensures, c.add.ensures, c.rotate_vector.ensures) refl
