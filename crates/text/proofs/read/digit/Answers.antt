@@ -13,10 +13,10 @@ returns-in-97-to-102 c = let b = c.args.b in
     omega (arith, digit_letter b (omega arith) (omega arith))
 
 pub returns-in_default : goal.returns-in_default
-returns-in_default c = ?
+returns-in_default c = sym (digit_low c.args.b (omega arith))
 
 pub returns-in_default-2 : goal.returns-in_default-2
-returns-in_default-2 c = ?
+returns-in_default-2 c = sym (digit_between c.args.b (omega arith) (omega arith))
 
 pub returns-in_default-3 : goal.returns-in_default-3
-returns-in_default-3 c = ?
+returns-in_default-3 c = sym (digit_high c.args.b (omega arith))

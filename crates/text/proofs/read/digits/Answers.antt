@@ -22,42 +22,42 @@ returns-then-base-d c = let a = c.args in
 pub returns-then-most-value : goal.returns-then-most-value
 returns-then-most-value c =
     let over : 2 ^ 64 ≤ c.loop-i.value * c.args.base + digit (get_or c.args.word.now c.loop-i.i 0) → none ≡ going_on (below (2 ^ 64) (number_from c.args.base c.args.number c.args.word.now)) c.args.next = λ h. let a = c.args in
-        sym (ap (λ (o : Option ℕ). going_on (below (2 ^ 64) o) a.next) c.loop-i.invariant.0
-        ∙ ap (λ (o : Option ℕ). going_on o a.next) (number_over a.base c.requires (2 ^ 64) a.word.now c.loop-i.value c.loop-i.i c.loop-i-test.true h)) in
+    sym (ap (λ (o : Option ℕ). going_on (below (2 ^ 64) o) a.next) c.loop-i.invariant.0
+    ∙ ap (λ (o : Option ℕ). going_on o a.next) (number_over a.base c.requires (2 ^ 64) a.word.now c.loop-i.value c.loop-i.i c.loop-i-test.true h)) in
     let h : 18446744073709551615 / c.args.base < c.loop-i.value = omega arith in
     over (omega (arith, product_above c.requires h))
 
 pub overflow_mul-high : goal.overflow_mul-high
 overflow_mul-high c =
     let within : c.loop-i.value * c.args.base ≤ 18446744073709551615 = let h : c.loop-i.value ≤ 18446744073709551615 / c.args.base = omega arith in
-        product_within c.requires h in
+    product_within c.requires h in
     omega (arith, within)
 
 pub overflow_sub-high : goal.overflow_sub-high
 overflow_sub-high c =
     let within : c.loop-i.value * c.args.base ≤ 18446744073709551615 = let h : c.loop-i.value ≤ 18446744073709551615 / c.args.base = omega arith in
-        product_within c.requires h in
+    product_within c.requires h in
     within
 
 pub returns-then-high-d : goal.returns-then-high-d
 returns-then-high-d c =
     let over : 2 ^ 64 ≤ c.loop-i.value * c.args.base + digit (get_or c.args.word.now c.loop-i.i 0) → none ≡ going_on (below (2 ^ 64) (number_from c.args.base c.args.number c.args.word.now)) c.args.next = λ h. let a = c.args in
-        sym (ap (λ (o : Option ℕ). going_on (below (2 ^ 64) o) a.next) c.loop-i.invariant.0
-        ∙ ap (λ (o : Option ℕ). going_on o a.next) (number_over a.base c.requires (2 ^ 64) a.word.now c.loop-i.value c.loop-i.i c.loop-i-test.true h)) in
+    sym (ap (λ (o : Option ℕ). going_on (below (2 ^ 64) o) a.next) c.loop-i.invariant.0
+    ∙ ap (λ (o : Option ℕ). going_on o a.next) (number_over a.base c.requires (2 ^ 64) a.word.now c.loop-i.value c.loop-i.i c.loop-i-test.true h)) in
     let within : c.loop-i.value * c.args.base ≤ 18446744073709551615 = let h : c.loop-i.value ≤ 18446744073709551615 / c.args.base = omega arith in
-        product_within c.requires h in
+    product_within c.requires h in
     over (omega (arith, within))
 
 pub overflow_add-value : goal.overflow_add-value
 overflow_add-value c =
     let within : c.loop-i.value * c.args.base ≤ 18446744073709551615 = let h : c.loop-i.value ≤ 18446744073709551615 / c.args.base = omega arith in
-        product_within c.requires h in
+    product_within c.requires h in
     omega (arith, within)
 
 pub loop-i-preserved : goal.loop-i-preserved
 loop-i-preserved c =
     let within : c.loop-i.value * c.args.base ≤ 18446744073709551615 = let h : c.loop-i.value ≤ 18446744073709551615 / c.args.base = omega arith in
-        product_within c.requires h in
+    product_within c.requires h in
     let a = c.args in
     let d : digit (get_or a.word.now c.loop-i.i 0) < a.base = omega arith in (
       c.loop-i.invariant.0 ∙ number_more a.base a.word.now c.loop-i.value c.loop-i.i c.loop-i-test.true d

@@ -15,17 +15,17 @@ returns-then-not-room c = let a = c.args in
 
 pub loop-i-init : goal.loop-i-init
 loop-i-init c = let a = c.args in (
-      refl,
-      leb-true (a.at + length a.text.now) (length a.out.now) (sym c.room.ensures ∙ c.if-not-room.false),
-      ap (λ (p : ℕ). sets a.out.now p a.text.now) (sym (add-zero a.at)),
-    )
+  refl,
+  leb-true (a.at + length a.text.now) (length a.out.now) (sym c.room.ensures ∙ c.if-not-room.false),
+  ap (λ (p : ℕ). sets a.out.now p a.text.now) (sym (add-zero a.at)),
+)
 
 pub loop-i-preserved : goal.loop-i-preserved
 loop-i-preserved c = let a = c.args in (
-      simp length-set c.loop-i.invariant.0,
-      c.loop-i.invariant.1,
-      c.loop-i.invariant.2 ∙ sets_more c.loop-i.out a.text.now a.at c.loop-i.i c.loop-i-test.true,
-    )
+  simp length-set c.loop-i.invariant.0,
+  c.loop-i.invariant.1,
+  c.loop-i.invariant.2 ∙ sets_more c.loop-i.out a.text.now a.at c.loop-i.i c.loop-i-test.true,
+)
 
 pub returns : goal.returns
 returns c = let a = c.args in

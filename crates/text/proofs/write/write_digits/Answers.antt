@@ -18,23 +18,23 @@ returns-then-not-room c = let a = c.args in
 
 pub loop-i-init : goal.loop-i-init
 loop-i-init c = let a = c.args in (
-      refl,
-      leb-true (a.at + a.k) (length a.out.now) (sym c.room.ensures ∙ c.if-not-room.false),
-      omega arith,
-      refl,
-    )
+  refl,
+  leb-true (a.at + a.k) (length a.out.now) (sym c.room.ensures ∙ c.if-not-room.false),
+  omega arith,
+  refl,
+)
 
 pub digit_character-requires : goal.digit_character-requires
 digit_character-requires c = omega (arith, mod-lt c.loop-i.rest c.requires.0)
 
 pub loop-i-preserved : goal.loop-i-preserved
 loop-i-preserved c = let a = c.args in (
-      simp length-set c.loop-i.invariant.0,
-      c.loop-i.invariant.1,
-      omega arith,
-      c.loop-i.invariant.3 ∙ digits_back a.base c.loop-i.i c.loop-i.rest c.loop-i.out a.at c.loop-i-test.true
-          ∙ ap (λ (g : ℕ). sets (set c.loop-i.out (a.at + (c.loop-i.i - 1)) g) a.at (digits a.base (c.loop-i.i - 1) (c.loop-i.rest / a.base))) (sym c.digit_character.ensures),
-    )
+  simp length-set c.loop-i.invariant.0,
+  c.loop-i.invariant.1,
+  omega arith,
+  c.loop-i.invariant.3 ∙ digits_back a.base c.loop-i.i c.loop-i.rest c.loop-i.out a.at c.loop-i-test.true
+      ∙ ap (λ (g : ℕ). sets (set c.loop-i.out (a.at + (c.loop-i.i - 1)) g) a.at (digits a.base (c.loop-i.i - 1) (c.loop-i.rest / a.base))) (sym c.digit_character.ensures),
+)
 
 pub returns : goal.returns
 returns c = let a = c.args in

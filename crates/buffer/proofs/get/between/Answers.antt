@@ -1,0 +1,6 @@
+use mathlib.Core.Path.{sym}
+use borrow.Author.Rules.{rules}
+use Rattle.buffer.proofs.get.between.Goals as goal
+
+pub returns : goal.returns
+returns c = rw (sym c.read_pose-first.ensures, sym c.read_pose-second.ensures) c.interpolated.ensures
