@@ -31,26 +31,26 @@ returns-then-at-count c child =
 pub offset_bounds-instants-at : goal.offset_bounds-instants-at
 offset_bounds-instants-at c =
     let inside : c.place-at.result < c.args.count = let l = place_le c.args.count c.args.instants.now (row_held _ _ _ c.requires) c.args.t c.place-at.result c.place-at.ensures in
-        omega arith in
+    omega arith in
     omega (arith, inside)
 
 pub bounds-instants-at : goal.bounds-instants-at
 bounds-instants-at c =
     let inside : c.place-at.result < c.args.count = let l = place_le c.args.count c.args.instants.now (row_held _ _ _ c.requires) c.args.t c.place-at.result c.place-at.ensures in
-        omega arith in
+    omega arith in
     omega (arith, inside)
 
 pub read_pose-requires-then-instants-at : goal.read_pose-requires-then-instants-at
 read_pose-requires-then-instants-at c =
     let inside : c.place-at.result < c.args.count = let l = place_le c.args.count c.args.instants.now (row_held _ _ _ c.requires) c.args.t c.place-at.result c.place-at.ensures in
-        omega arith in
+    omega arith in
     omega (arith, inside)
 
 pub returns-then-instants-at : goal.returns-then-instants-at
 returns-then-instants-at c child =
     let is_moving : c.args.kind ≡ Dynamic = c.in_default.is in
     let inside : c.place-at.result < c.args.count = let l = place_le c.args.count c.args.instants.now (row_held _ _ _ c.requires) c.args.t c.place-at.result c.place-at.ensures in
-        omega arith in
+    omega arith in
     rw (is_moving, c.read_pose-then-instants-at.ensures) (sym (exact c.args.count c.args.instants.now c.args.poses.now c.requires c.args.t c.place-at.result c.place-at.ensures child inside c.if-instants-at.true))
 
 pub returns-then-at-eq0 : goal.returns-then-at-eq0
@@ -62,20 +62,20 @@ returns-then-at-eq0 c child =
 pub between-requires : goal.between-requires
 between-requires c =
     let inside : c.place-at.result < c.args.count = let l = place_le c.args.count c.args.instants.now (row_held _ _ _ c.requires) c.args.t c.place-at.result c.place-at.ensures in
-        omega arith in
+    omega arith in
     (omega arith, omega (arith, inside, c.requires.fits), c.requires.sevens)
 
 pub returns-in_default-between : goal.returns-in_default-between
 returns-in_default-between c child =
     let inside : c.place-at.result < c.args.count = let l = place_le c.args.count c.args.instants.now (row_held _ _ _ c.requires) c.args.t c.place-at.result c.place-at.ensures in
-        omega arith in
-    let u = no_pose_lem c.between.result c.in_default-between.keys2 in
+    omega arith in
+    let u = no_pose_lem c.between.result c.in_default-between.not-Pose in
     absurd (never_refused c.args.count c.args.instants.now c.args.poses.now c.requires c.args.t c.place-at.result c.place-at.ensures child (omega arith) inside _ _ (reply_of c.between.result) c.between.ensures u.0 u.1 u.2)
 
 pub returns : goal.returns
 returns c child =
     let is_moving : c.args.kind ≡ Dynamic = c.in_default.is in
     let inside : c.place-at.result < c.args.count = let l = place_le c.args.count c.args.instants.now (row_held _ _ _ c.requires) c.args.t c.place-at.result c.place-at.ensures in
-        omega arith in
+    omega arith in
     let e = rw c.in-Pose.is at c.between.ensures in
     rw is_moving (amid c.args.count c.args.instants.now c.args.poses.now c.requires c.args.t c.place-at.result c.place-at.ensures child (omega arith) inside c.if-instants-at.false _ e)

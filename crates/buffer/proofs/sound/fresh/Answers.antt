@@ -32,6 +32,5 @@ overflow_sub-result c = held_le c.args.count c.args.instants.now c.requires 0 (c
 
 pub returns : goal.returns
 returns c poses = let a = c.args in
-    let age = c.max_age-1.given in
-    fresh_words age.0.0 a.count a.instants.now poses c.requires (omega arith) (held_le a.count a.instants.now c.requires 0 (a.count - 1) (omega arith) (omega arith))
-    ∙ ap (λ o. survivors o a.count a.instants.now poses) (sym (ap age_of age.1))
+    fresh_words c.in-Nanos.age a.count a.instants.now poses c.requires (omega arith) (held_le a.count a.instants.now c.requires 0 (a.count - 1) (omega arith) (omega arith))
+    ∙ ap (λ o. survivors o a.count a.instants.now poses) (sym (ap age_of c.in-Nanos.is))
