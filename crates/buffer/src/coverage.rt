@@ -5,7 +5,7 @@ ghost use Rattle.buffer.specs.Row.{Instants, samples_of};
 
 use super::kind::Kind;
 
-#[derive(Drop)]
+#[derive(Clone, Copy)]
 pub enum Coverage {
     AllTime,
     Range { start: u64, end: u64 },

@@ -1,7 +1,7 @@
 // How long samples are kept.
 
 // Without bound, or so many nanoseconds behind a row's newest.
-#[derive(Drop)]
+#[derive(Clone, Copy)]
 pub enum MaxAge {
     Unlimited,
     Nanos(u64),

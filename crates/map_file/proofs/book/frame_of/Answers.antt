@@ -1,0 +1,13 @@
+use mathlib.Core.Path.{sym, ap, ◌∙◌}
+use borrow.Author.Rules.{rules}
+use Rattle.map_file.specs.Answers.{count_of}
+use Rattle.map_file.proofs.ByteLists.{bytes_known}
+use Rattle.map_file.proofs.NamesFormed.{formed_of, frame_unformed}
+use Rattle.map_file.proofs.book.frame_of.Goals as goal
+
+pub returns-in_default : goal.returns-in_default
+returns-in_default c = let a = c.args in
+    frame_unformed a.map.now a.name.now (sym (ap count_of c.in_default.is) ∙ c.records.ensures)
+
+pub number_of-requires : goal.number_of-requires
+number_of-requires c = formed_of c.args.map.now (bytes_known c.args.map.now c.type_inv.map) _ (sym (ap count_of c.in-Records.is) ∙ c.records.ensures)

@@ -1,0 +1,6 @@
+use borrow.Author.Rules.{rules}
+use Rattle.registry.specs.Path.{onto}
+use Rattle.registry.proofs.lookup.compose.onto.Goals as goal
+
+pub returns : goal.returns
+returns c = rw c.in-Product.is c.product.ensures

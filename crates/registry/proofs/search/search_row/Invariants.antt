@@ -1,0 +1,13 @@
+use Prim.Native.Nat.{◌+◌, ◌-◌, ◌/◌}
+use mathlib.Core.Path.{sym, subst, ◌∙◌}
+use native.Mathlib.Omega.{arith}
+use Rattle.registry.proofs.layout.RowLaws.{used_header, used_row}
+use Rattle.registry.proofs.layout.RowSearch.{Between, between_all, between_up, between_down, between_none}
+use Rattle.registry.proofs.search.search_row.Given as goal
+
+-- `registry::search::search_row` meets its contract. The invariant of its loop: the frame's row, if there is one, is from `low` up to `high`.
+abbrev pub invariant-loop-low : goal.invariant-loop-low
+invariant-loop-low l = Between l.head l.frame l.low l.high
+
+abbrev pub decreases-loop-low : goal.decreases-loop-low
+decreases-loop-low l = l.high - l.low

@@ -1,0 +1,15 @@
+use Prim.Native.Nat.{◌-◌, ◌≤◌}
+use mathlib.Core.Path.{◌∙◌}
+use native.Mathlib.Omega.{arith}
+use lib.ListN.{length}
+use borrow.Author.Rules.{rules}
+use Rattle.registry.specs.soundness.Climbs.{Climbed}
+use Rattle.registry.proofs.soundness.Doubling.{climbed_twice, ended_is}
+use Rattle.registry.proofs.soundness.no_circle.climbs_end.Given as goal
+
+-- `registry::soundness::no_circle::climbs_end` meets its contract. The invariant of its loop: each entry is at least so many steps up.
+abbrev pub invariant-loop-steps : goal.invariant-loop-steps
+invariant-loop-steps l = (1 ≤ l.steps) × Climbed l.head l.steps l.rows
+
+abbrev pub decreases-loop-steps : goal.decreases-loop-steps
+decreases-loop-steps l = length l.initial.rows - l.steps
