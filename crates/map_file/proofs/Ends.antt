@@ -9,7 +9,7 @@ use borrow.Author.Tests.{le-leb, lt-leb}
 use lib.Dec.{leb}
 use lib.ListN.{length, take, drop, get_or, length-drop, drop_of_length-le}
 use lib.Seq.{drop-cons, drop-drop}
-use Rattle.map_file.specs.Form.{◌andThen◌, times, name_from, record_from}
+use Rattle.map_file.specs.Form.{◌and_then◌, times, name_from, record_from}
 use Rattle.map_file.specs.walks.Ends.{end_of}
 use Rattle.map_file.proofs.Leaves.{Read, end_none, end_back}
 use Rattle.map_file.proofs.Words.{words_read, words_cut}

@@ -13,7 +13,7 @@ use Rattle.text.specs.Reading.{same}
 use Rattle.buffer.specs.Map.{all}
 use Rattle.buffer.specs.Row.{concat_map}
 use Rattle.buffer.proofs.Cases.{and_both, and_left, and_right}
-use Rattle.map_file.specs.Form.{Record, ◌andThen◌, times, number_bytes, number_from, fixed_from, whole, record_bytes, record_fits, record_from, mark_and_version, file_bytes, FileFits, records}
+use Rattle.map_file.specs.Form.{Record, ◌and_then◌, times, number_bytes, number_from, fixed_from, whole, record_bytes, record_fits, record_from, mark_and_version, file_bytes, FileFits, records}
 use Rattle.map_file.specs.Laws.{Bytes, FormBothWays}
 use Rattle.map_file.proofs.BookSame.{same_is, same_self}
 use Rattle.map_file.proofs.Steps.{steps, then_some}

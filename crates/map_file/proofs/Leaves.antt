@@ -9,7 +9,7 @@ use lib.Dec.{leb}
 use lib.ListN.{length, take, drop, length-drop}
 use lib.Seq.{drop-drop}
 use Rattle.buffer.proofs.Cases.{none_some}
-use Rattle.map_file.specs.Form.{◌andThen◌, times, number_from, name_from, record_from}
+use Rattle.map_file.specs.Form.{◌and_then◌, times, number_from, name_from, record_from}
 use Rattle.map_file.specs.walks.Ends.{end_of}
 
 -- from some place on

@@ -5,7 +5,7 @@ use mathlib.Core.Option.{Option, none, some, some-injective}
 use mathlib.Core.List.{List}
 use lib.ListN.{length}
 use Rattle.buffer.proofs.Cases.{none_some}
-use Rattle.map_file.specs.Form.{◌andThen◌, times}
+use Rattle.map_file.specs.Form.{◌and_then◌, times}
 
 pub record Steps {A B : Type 0} (o : Option (A × List ℕ)) (next : A → List ℕ → Option B) (b : B) : Type 0 where
   pub first : A

@@ -57,8 +57,8 @@ pub record FileFits (rs : List Record) : Type 0 where
 -- ---- from bytes to records: what stands at the front of bytes, and the bytes behind it; none where it does not have that form
 
 -- one form behind another
-infixr 1 ◌andThen◌
-abbrev pub ◌andThen◌ : {A B : Type 0} → Option (A × List ℕ) → (A → List ℕ → Option B) → Option B
+infixr 1 ◌and_then◌
+abbrev pub ◌and_then◌ : {A B : Type 0} → Option (A × List ℕ) → (A → List ℕ → Option B) → Option B
 none and_then next = none
 some x and_then next = next x.0 x.1
 

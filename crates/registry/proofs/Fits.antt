@@ -20,7 +20,7 @@ use Rattle.buffer.specs.Samples.{coverage, served}
 use Rattle.buffer.proofs.Cases.{false_true}
 use Rattle.registry.specs.Tree.{Tree}
 use Rattle.registry.specs.Answers.{Value}
-use Rattle.registry.specs.Path.{Hop, chain, hops, side, connected, known, ask, fold, joined, combined, lookup_along, lookup_apart, Span, span_then, spans, earliest_end, latest_start, meet}
+use Rattle.registry.specs.Path.{Hop, chain, hops, side, connected, known, ask, fold, onto, joined, combined, lookup_along, lookup_apart, Span, span_then, spans, earliest_end, latest_start, meet}
 use Rattle.registry.specs.PathLaws.{Every}
 use Rattle.registry.specs.Replies.{of_pose, of_time, answers}
 use Rattle.registry.specs.paths.Walks.{ask_known}
@@ -107,7 +107,7 @@ module _ (R : ℕ → Carried → Bool) (i : ℕ) where
 
   pub fold_only : (below : Option Isometry) (hs : List Hop) → Every Serves hs → Only R (fold below hs i)
   fold_only below [] s = answered refl
-  fold_only below (h ∷ hs) s = on_then _ s.0 (λ p. fold_only _ hs s.1)
+  fold_only below (h ∷ hs) s = on_then _ s.0 (λ p. fold_only (some (onto p below)) hs s.1)
 
   pub lookup_known : R 10 nothing ≡ true → R 13 nothing ≡ true → R 14 nothing ≡ true → R 3 nothing ≡ true
       → (t : Tree) → ((xs : List ℕ) → Every Serves (hops t xs)) → (f g : ℕ) → Fits R (answers of_pose) (ask_known t f g (lookup_along i) (lookup_apart i))

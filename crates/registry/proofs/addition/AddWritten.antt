@@ -28,13 +28,13 @@ use Rattle.registry.specs.Answers.{done, reply_of}
 use Rattle.registry.specs.Calls.{outcome, written}
 use Rattle.registry.specs.layout.Rows.{IsRow, AbsentAt, empty_row, with_row, put_into}
 use Rattle.registry.specs.addition.Adding.{admits}
-use Rattle.registry.specs.contracts.answer.Answer as declared
+use Rattle.registry.specs.declared.answer.Answer.TheVariants as enum
 use Rattle.registry.proofs.layout.SizeLaws.{sized_is}
 use Rattle.registry.proofs.soundness.Rules.{sound_is}
 use Rattle.registry.proofs.layout.TreeRows.{get_found, get_absent}
 use Rattle.registry.proofs.layout.NewRow.{blank_edge, with_empty, row_stored, empty_limits, empty_tree, empty_row_lem}
 use Rattle.registry.proofs.soundness.SoundStore.{sound_rows}
-use Rattle.registry.proofs.addition.Admitting.{others, admits_decides, passed, failed}
+use Rattle.registry.proofs.addition.Admitting.{admits_decides, passed, failed}
 
 -- ---- refusals
 
@@ -47,7 +47,7 @@ module _ (L : Limits) (t : Tree) (a : Addition) (held : Option Edge) (q : get t 
   unfolding add admits
   add_is = rw q
 
-  pub refused_written : (s : Store) (r : Answer) → OneOf others (tag_of declared.the_type r) → reply_of r ≡ admits L t a held (answer done)
+  pub refused_written : (s : Store) (r : Answer) → (r ≡ enum.Done → ⊥) → reply_of r ≡ admits L t a held (answer done)
       → outcome (reply_of r) s.head s.instants s.poses ≡ written s L (add L t a)
   refused_written s r h d =
       let z = failed (admits_decides L t a held (after L t a held)) r h d in

@@ -49,13 +49,13 @@ validate_three p k e =
     refuses_three (not (vector.is_finite p.translation && quaternion.is_finite p.rotation)) (lt tolerance (abs (n ⊖ one64))) n p k e
 
 -- what is neither a pose nor 4
-pub validate_left : (a : geometry.Answer) (p : Isometry) → OneOf (1 ∷ 3 ∷ 4 ∷ 5 ∷ []) (tag_of the_type a) → poses.reply_of a ≡ validate p → refusal 3 nothing ≡ validate p
-validate_left (transform.Pose q) p h e = absurd (miss (1 ∷ 3 ∷ 4 ∷ 5 ∷ []) 0 tt h)
-validate_left transform.NonFiniteValues p h e = e
-validate_left (transform.NonUnitRotation n) p h e = absurd (miss (1 ∷ 3 ∷ 4 ∷ 5 ∷ []) 2 tt h)
-validate_left transform.NonFinite p h e = absurd (let z = validate_three p 13 e in omega arith)
-validate_left transform.ZeroLengthNormalization p h e = absurd (let z = validate_three p 14 e in omega arith)
-validate_left transform.DurationUnderflow p h e = absurd (let z = validate_three p 15 e in omega arith)
+pub validate_left : (a : geometry.Answer) (p : Isometry) → ((q : Isometry) → a ≡ transform.Pose q → ⊥) → ((n : Float) → a ≡ transform.NonUnitRotation n → ⊥) → poses.reply_of a ≡ validate p → refusal 3 nothing ≡ validate p
+validate_left (transform.Pose q) p h g e = absurd (h q refl)
+validate_left transform.NonFiniteValues p h g e = e
+validate_left (transform.NonUnitRotation n) p h g e = absurd (g n refl)
+validate_left transform.NonFinite p h g e = absurd (let z = validate_three p 13 e in omega arith)
+validate_left transform.ZeroLengthNormalization p h g e = absurd (let z = validate_three p 14 e in omega arith)
+validate_left transform.DurationUnderflow p h g e = absurd (let z = validate_three p 15 e in omega arith)
 
 module _ {A : Type 0} (child parent : ℕ) (p : Isometry) (next : Reply A) where
   pub pose_tests_refused : (k : ℕ) (c : Carried) → refusal k c ≡ validate p → refusal k c ≡ pose_tests child parent p next
@@ -102,33 +102,21 @@ module _ {A : Type 0} where
 
 -- ---- what an answer to the tests says of the whole
 
--- the cases of an enum, counted from n
-abbrev counted : ℕ → List (List Field) → List ℕ
-counted n [] = []
-counted n (fields ∷ cases) = n ∷ counted (suc n) cases
-
-abbrev behind_first : List ℕ → List ℕ
-behind_first [] = []
-behind_first (k ∷ ks) = ks
-
--- every case of the answer but the first, `Done`
-abbrev pub others : List ℕ
-others = behind_first (counted 0 declared.the_parts)
-
-pub not_done : (r : Answer) → OneOf others (tag_of declared.the_type r) → reply_of r ≡ answer done → ⊥
-not_done r h e = miss others 0 tt (subst (λ (a : Answer). OneOf others (tag_of declared.the_type a)) (reply_injective r enum.Done e) h)
+-- an answer that is not `Done` is not done
+pub not_done : (r : Answer) → (r ≡ enum.Done → ⊥) → reply_of r ≡ answer done → ⊥
+not_done r h e = h (reply_injective r enum.Done e)
 
 module _ {A : Type 0} {tried : Reply Value} {next whole : Reply A} where
   pub passed : Decides tried next whole → answer done ≡ tried → whole ≡ next
   passed (pass e f) d = f
   passed (fail k c e f) d = absurd (refusal_answer (sym e ∙ sym d))
 
-  pub failed : Decides tried next whole → (r : Answer) → OneOf others (tag_of declared.the_type r) → reply_of r ≡ tried
+  pub failed : Decides tried next whole → (r : Answer) → (r ≡ enum.Done → ⊥) → reply_of r ≡ tried
       → (k : ℕ) × (c : Carried) × (reply_of r ≡ refusal k c) × (whole ≡ refusal k c)
   failed (pass e f) r h d = absurd (not_done r h (d ∙ e))
   failed (fail k c e f) r h d = (k, c, d ∙ e, f)
 
-pub same_refusal : {tried next whole : Reply Value} → Decides tried next whole → (r : Answer) → OneOf others (tag_of declared.the_type r) → reply_of r ≡ tried → reply_of r ≡ whole
+pub same_refusal : {tried next whole : Reply Value} → Decides tried next whole → (r : Answer) → (r ≡ enum.Done → ⊥) → reply_of r ≡ tried → reply_of r ≡ whole
 same_refusal d r h e = let z = failed d r h e in z.2 ∙ sym z.3
 
 -- ---- the tests one by one
@@ -152,7 +140,7 @@ module _ (L : Limits) (t : Tree) (child parent : ℕ) (stamp : Stamp) (p : Isome
     unfolding admits
     held_is = refl
 
-    pub held_tested : (r : Answer) → OneOf others (tag_of declared.the_type r) → reply_of r ≡ tested → reply_of r ≡ held
+    pub held_tested : (r : Answer) → (r ≡ enum.Done → ⊥) → reply_of r ≡ tested → reply_of r ≡ held
     held_tested r h d = same_refusal (pose_tests_decides child parent p after_pose) r h d ∙ sym held_is
 
     held_after : answer done ≡ tested → held ≡ after_pose
@@ -180,7 +168,7 @@ module _ (L : Limits) (t : Tree) (child parent : ℕ) (stamp : Stamp) (p : Isome
     unfolding admits
     new_is = rw q
 
-    pub new_tested : (r : Answer) → OneOf others (tag_of declared.the_type r) → reply_of r ≡ tested → reply_of r ≡ new
+    pub new_tested : (r : Answer) → (r ≡ enum.Done → ⊥) → reply_of r ≡ tested → reply_of r ≡ new
     new_tested r h d = same_refusal (pose_tests_decides child parent p after_tested) r h d ∙ sym new_is
 
     pub new_room : answer done ≡ tested → after_tested ≡ new

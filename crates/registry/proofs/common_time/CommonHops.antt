@@ -23,13 +23,13 @@ abbrev narrow_all : CommonSpan → List Span → CommonSpan
 narrow_all c [] = c
 narrow_all c (x ∷ xs) = narrow_all (narrow c x) xs
 
-narrow_all_lem : (end : ℕ) (late : Span) (xs : List Span) → narrow_all (some (end, late)) xs ≡ some (earliest_end end xs, latest_start late xs)
-narrow_all_lem end late [] = refl
-narrow_all_lem end late (x ∷ xs) = narrow_all_lem _ _ xs
+narrow_all_lem : (xs : List Span) (end : ℕ) (late : Span) → narrow_all (some (end, late)) xs ≡ some (earliest_end end xs, latest_start late xs)
+narrow_all_lem [] end late = refl
+narrow_all_lem (x ∷ xs) end late = narrow_all_lem xs _ _
 
 agreed_meet : (xs : List Span) → agreed (narrow_all none xs) ≡ meet xs
 agreed_meet [] = refl
-agreed_meet (x ∷ xs) = rw (narrow_all_lem x.end x xs)
+agreed_meet (x ∷ xs) = rw (narrow_all_lem xs x.end x)
 
 narrowed_spans : (hs : List Hop) (c : CommonSpan) → narrowed c hs ≡ (spans hs then λ xs. answer (narrow_all c xs))
 narrowed_spans [] c = refl

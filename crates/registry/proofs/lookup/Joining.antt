@@ -81,10 +81,10 @@ inverse_mild p =
     refuse_then (not (finite (norm q))) (lt (norm q) epsilon) (scale q (one64 ⊘ norm q)) (λ z. inverse_with_rotation p (conjugate z)) (inverse_with_rotation_mild p _)
 
 -- so what is none of a pose, 13 and 14 is 3
-pub inverse_left : (a : Answer) (p : Isometry) → OneOf (1 ∷ 2 ∷ 5 ∷ []) (tag_of the_type a) → geometry.reply_of a ≡ inverse p → refusal 3 nothing ≡ inverse p
-inverse_left (transform.Pose q) p h e = absurd (miss (1 ∷ 2 ∷ 5 ∷ []) 0 tt h)
-inverse_left transform.NonFiniteValues p h e = e
-inverse_left (transform.NonUnitRotation n) p h e = absurd ((rw (← e) at (inverse_mild p)).0 refl)
-inverse_left transform.NonFinite p h e = absurd (miss (1 ∷ 2 ∷ 5 ∷ []) 3 tt h)
-inverse_left transform.ZeroLengthNormalization p h e = absurd (miss (1 ∷ 2 ∷ 5 ∷ []) 4 tt h)
-inverse_left transform.DurationUnderflow p h e = absurd ((rw (← e) at (inverse_mild p)).1 refl)
+pub inverse_left : (a : Answer) (p : Isometry) → ((q : Isometry) → a ≡ transform.Pose q → ⊥) → (a ≡ transform.NonFinite → ⊥) → (a ≡ transform.ZeroLengthNormalization → ⊥) → geometry.reply_of a ≡ inverse p → refusal 3 nothing ≡ inverse p
+inverse_left (transform.Pose q) p h f g e = absurd (h q refl)
+inverse_left transform.NonFiniteValues p h f g e = e
+inverse_left (transform.NonUnitRotation n) p h f g e = absurd ((rw (← e) at (inverse_mild p)).0 refl)
+inverse_left transform.NonFinite p h f g e = absurd (f refl)
+inverse_left transform.ZeroLengthNormalization p h f g e = absurd (g refl)
+inverse_left transform.DurationUnderflow p h f g e = absurd ((rw (← e) at (inverse_mild p)).1 refl)

@@ -1,7 +1,7 @@
 -- The frames at which the climbs from two frames end, told one step at a time: they are one frame exactly where there is a path, and the hops up to them are those of
 -- the path's sides.
 use Prim.Native.Nat.{ℕ, ◌≤◌}
-use mathlib.Core.Path.{◌≡◌, refl, sym, ap, ◌∙◌}
+use mathlib.Core.Path.{◌≡◌, refl, sym, ap, subst, ◌∙◌}
 use mathlib.Core.Bool.{Bool, true, false}
 use mathlib.Core.Option.{none, some}
 use mathlib.Core.List.{List, [], ◌∷◌}
@@ -34,7 +34,8 @@ module _ (test : ℕ → Bool) where
 
   first_member : (x : ℕ) (xs : List ℕ) → member (first_or_last test x xs) (x ∷ xs) ≡ true
   first_member x [] = rw (eq-eqb x x refl)
-  first_member x (y ∷ ys) = both (test x) (λ h. rw (h, eq-eqb x x refl)) (λ h. rw h (behind x _ (first_member y ys)))
+  first_member x (y ∷ ys) = both (test x) (λ h. rw (h, eq-eqb x x refl)) (λ h. let e : first_or_last test x (y ∷ ys) ≡ first_or_last test y ys = rw h refl in
+      subst (λ (k : ℕ). member k (x ∷ y ∷ ys) ≡ true) (sym e) (behind x _ (first_member y ys)))
     where
       behind : (x k : ℕ) → member k (y ∷ ys) ≡ true → member k (x ∷ y ∷ ys) ≡ true
       behind x k m = both (eqb k x) (λ e. rw e) (λ e. rw e m)
@@ -74,7 +75,7 @@ module _ (t : Tree) (gr : Grounded t) where
     unfolding climb_end
     climb_end_stays =
         first_same (λ x. member x (chain t f)) (λ x. member x (chain t e.parent)) g (ancestors t g)
-        (λ x m. ap (member x) (chain_up t gr f e q) ∙ both (eqb x f) (λ s. absurd (false_true (sym out ∙ rw (← eqb-true x f s) m))) (λ s. rw s))
+        (λ x m. ap (member x) (chain_up t gr f e q) ∙ both (eqb x f) (λ s. absurd (false_true (sym out ∙ subst (λ (k : ℕ). member k (chain t g) ≡ true) (eqb-true x f s) m))) (λ s. rw s))
 
     side_up : side t f g ≡ f ∷ side t e.parent g
     unfolding side
@@ -99,7 +100,7 @@ module _ (t : Tree) (gr : Grounded t) where
       let out : member f (chain t e.parent) ≡ false =
       not_above f e.parent (λ z. let w = ap (λ (x : ℕ). length (ancestors t x)) z in omega arith) (omega arith)
       in
-      false_true (sym out ∙ rw (← s) m)
+      false_true (sym out ∙ subst (λ (z : ℕ). member z (chain t e.parent) ≡ true) s m)
 
   -- where g is f or above it, the climb from f ends at g
   pub climb_end_above : (g f : ℕ) → member g (chain t f) ≡ true → climb_end t f g ≡ g

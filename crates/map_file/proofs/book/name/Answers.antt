@@ -1,4 +1,4 @@
-use mathlib.Core.Path.{◌≡◌, sym, ap, ◌∙◌}
+use mathlib.Core.Path.{◌≡◌, refl, sym, ap, ◌∙◌}
 use mathlib.Core.List.{List, [], ◌∷◌}
 use Prim.Native.Nat.{ℕ, ◌+◌, ◌-◌}
 use native.Mathlib.Omega.{arith}
@@ -20,14 +20,14 @@ use Rattle.map_file.proofs.book.name.Goals as goal
 
 -- `map_file::book::name` meets its contract: the bytes of the part that a number is answered with, or none.
 -- what is not a part has no bytes
-nothing_back : (bytes : List ℕ) (frame : ℕ) (r : Named) → OneOf (1 ∷ 2 ∷ []) (tag_of the_type r) → part_read r ≡ part_in bytes frame → handed_back (name_in bytes frame) ≡ []
-nothing_back bytes frame (name.Part start count) h e = absurd (miss (1 ∷ 2 ∷ []) 0 tt h)
+nothing_back : (bytes : List ℕ) (frame : ℕ) (r : Named) → ((start count : ℕ) → r ≡ name.Part start count → ⊥) → part_read r ≡ part_in bytes frame → handed_back (name_in bytes frame) ≡ []
+nothing_back bytes frame (name.Part start count) h e = absurd (h start count refl)
 nothing_back bytes frame name.Nothing h e = no_name bytes frame (λ part q. none_some (answer_in (e ∙ q)))
 nothing_back bytes frame name.MapForm h e = no_name bytes frame (λ part q. refusal_answer (e ∙ q))
 
 pub returns-in_default : goal.returns-in_default
 returns-in_default c = let a = c.args in
-    sym (nothing_back a.map.now a.frame c.name_of.result c.in_default.keys2 c.name_of.ensures)
+    sym (nothing_back a.map.now a.frame c.name_of.result c.in_default.not-Part c.name_of.ensures)
 
 pub overflow_add-result : goal.overflow_add-result
 overflow_add-result c =

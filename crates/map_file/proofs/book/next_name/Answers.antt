@@ -6,18 +6,14 @@ use Rattle.map_file.proofs.NamesWalk.{next_is}
 use Rattle.map_file.proofs.book.next_name.Goals as goal
 
 -- `map_file::book::next_name` meets its contract: the place behind a child, or behind a parent and a pose.
--- the next name's place, where it is known whether this one is a parent's
-next : (c : tie.Start) (parent : Bool) → c.args.parent ≡ parent → next_name c.args.map.now c.args.at c.args.parent ≡ next_name c.args.map.now c.args.at parent
-next c parent e = ap (next_name c.args.map.now c.args.at) e
-
 pub behind_name-end-requires : goal.behind_name-end-requires
 behind_name-end-requires c = let a = c.args in omega (arith, next_is a.map.now a.at a.parent)
 
 pub overflow_add-result : goal.overflow_add-result
-overflow_add-result c = omega (arith, next c.before.before.before true c.if-parent.true)
+overflow_add-result c = omega (arith, ap (next_name c.args.map.now c.args.at) c.if-parent.true)
 
 pub returns-then-parent : goal.returns-then-parent
-returns-then-parent c = omega (arith, next c.before.before.before true c.if-parent.true)
+returns-then-parent c = omega (arith, ap (next_name c.args.map.now c.args.at) c.if-parent.true)
 
 pub returns : goal.returns
-returns c = omega (arith, next c.before.before.before false c.if-parent.false)
+returns c = omega (arith, ap (next_name c.args.map.now c.args.at) c.if-parent.false)

@@ -9,31 +9,32 @@ use Rattle.registry.specs.Calls.{store_of, wipe_of}
 use Rattle.registry.proofs.soundness.Called.{TestsFind, written_called, found_sound}
 use Rattle.registry.proofs.remove_before.remove_before.Goals as goal
 
-checked : (c : tie.After-check) (r : Checked) → c.check.result ≡ r → TestsFind (store (start c)) r
-checked c r e = subst (TestsFind (store (start c))) e c.check.ensures
-
 pub remove_before-requires : goal.remove_before-requires
 remove_before-requires c =
     let store : Store = store_of c.args.head.now c.args.instants.now c.args.poses.now in
-    found_sound store (checked c.before.before.before.before.before _ c.in-Sound.is)
+    let checked : (r : Checked) → c.check.result ≡ r → TestsFind (store) r = λ r e. subst (TestsFind (store)) e c.check.ensures in
+    found_sound store (checked _ c.in-Sound.is)
 
 pub returns-in-Sizes : goal.returns-in-Sizes
 unfolding wipe_of
 returns-in-Sizes c =
     let store : Store = store_of c.args.head.now c.args.instants.now c.args.poses.now in
+    let checked : (r : Checked) → c.check.result ≡ r → TestsFind (store) r = λ r e. subst (TestsFind (store)) e c.check.ensures in
     let asked : Limits → Tree → Reply Tree = λ L t. wipe t c.args.child c.args.t in
-    written_called store Sizes (checked c.before.before _ c.in-Sizes.is) asked
+    written_called store Sizes (checked _ c.in-Sizes.is) asked
 
 pub returns-in-UnsoundStore : goal.returns-in-UnsoundStore
 unfolding wipe_of
 returns-in-UnsoundStore c =
     let store : Store = store_of c.args.head.now c.args.instants.now c.args.poses.now in
+    let checked : (r : Checked) → c.check.result ≡ r → TestsFind (store) r = λ r e. subst (TestsFind (store)) e c.check.ensures in
     let asked : Limits → Tree → Reply Tree = λ L t. wipe t c.args.child c.args.t in
-    written_called store UnsoundStore (checked c.before.before _ c.in-UnsoundStore.is) asked
+    written_called store UnsoundStore (checked _ c.in-UnsoundStore.is) asked
 
 pub returns-in-Sound : goal.returns-in-Sound
 unfolding wipe_of
 returns-in-Sound c =
     let store : Store = store_of c.args.head.now c.args.instants.now c.args.poses.now in
+    let checked : (r : Checked) → c.check.result ≡ r → TestsFind (store) r = λ r e. subst (TestsFind (store)) e c.check.ensures in
     let asked : Limits → Tree → Reply Tree = λ L t. wipe t c.args.child c.args.t in
-    c.remove_before.ensures ∙ written_called store Sound (checked c.before.before.before.before.before.before.before.before.before.before.before.before _ c.in-Sound.is) asked
+    c.remove_before.ensures ∙ written_called store Sound (checked _ c.in-Sound.is) asked

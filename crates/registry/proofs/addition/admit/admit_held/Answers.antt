@@ -18,7 +18,7 @@ use Rattle.registry.proofs.addition.admit.admit_held.Goals as goal
 pub returns-in_default : goal.returns-in_default
 returns-in_default c =
     let edge : List ℕ → List Float → Edge = λ i p. (row_at (store_of c.args.head.now i p) c.args.r).1 in
-    λ L t i p. held_tested L t c.args.child c.args.parent c.args.stamp c.args.pose (edge i p) c.test_pose-tested.result c.in_default.keys2 c.test_pose-tested.ensures
+    λ L t i p. held_tested L t c.args.child c.args.parent c.args.stamp c.args.pose (edge i p) c.test_pose-tested.result c.in_default.not-Done c.test_pose-tested.ensures
 
 pub returns-then-held-parent : goal.returns-then-held-parent
 returns-then-held-parent c =

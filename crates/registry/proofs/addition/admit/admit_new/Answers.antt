@@ -25,7 +25,7 @@ pub returns-in_default : goal.returns-in_default
 returns-in_default c =
     let store : List ℕ → List Float → Store = λ i p. store_of c.args.head.now i p in
     let no_circle : ((i : List ℕ) (p : List Float) → member c.args.child (ancestors (tree_of (store i p)) c.args.parent) ≡ false) = λ i p. sym (c.creates_cycle.ensures i p) ∙ c.if-creates_cycle.false in
-    λ i p stamp. new_tested (limits_of (store i p)) (tree_of (store i p)) c.args.child c.args.parent stamp c.args.pose (no_circle i p) c.test_pose-tested.result c.in_default.keys2 c.test_pose-tested.ensures
+    λ i p stamp. new_tested (limits_of (store i p)) (tree_of (store i p)) c.args.child c.args.parent stamp c.args.pose (no_circle i p) c.test_pose-tested.result c.in_default.not-Done c.test_pose-tested.ensures
 
 pub rows-requires : goal.rows-requires
 rows-requires c = used_header c.args.head.now c.requires.within

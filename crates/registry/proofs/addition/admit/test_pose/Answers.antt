@@ -20,4 +20,4 @@ pub returns-in-NonUnitRotation : goal.returns-in-NonUnitRotation
 returns-in-NonUnitRotation c = pose_tests_refused c.args.child c.args.parent c.args.pose (answer done) 4 (norm c.in-NonUnitRotation.norm) (sym (ap geometry.reply_of c.in-NonUnitRotation.is) ∙ c.validate.ensures)
 
 pub returns-in_default : goal.returns-in_default
-returns-in_default c = pose_tests_refused c.args.child c.args.parent c.args.pose (answer done) 3 nothing (validate_left c.validate.result c.args.pose c.in_default.keys3 c.validate.ensures)
+returns-in_default c = pose_tests_refused c.args.child c.args.parent c.args.pose (answer done) 3 nothing (validate_left c.validate.result c.args.pose c.in_default.not-Pose c.in_default.not-NonUnitRotation c.validate.ensures)

@@ -22,7 +22,7 @@ returns-in_default c =
     let z = store in
     refused_written (limits_of z) (tree_of z) (addition c.args.child c.args.parent c.args.stamp c.args.pose) (some (edge_at z c.args.r))
     (held_get z c.requires.0 c.args.child c.args.parent c.args.stamp c.args.pose c.args.r c.requires.1)
-    z c.admit_held-admitted.result c.in_default.keys2 (c.admit_held-admitted.ensures (limits_of z) (tree_of z) z.instants z.poses)
+    z c.admit_held-admitted.result c.in_default.not-Done (c.admit_held-admitted.ensures (limits_of z) (tree_of z) z.instants z.poses)
 
 pub put_row-requires : goal.put_row-requires
 put_row-requires c =

@@ -27,7 +27,7 @@ returns-in_default c =
     let z = store in
     refused_written (limits_of z) (tree_of z) added none
     (absent_get z c.requires.0 c.args.child c.args.parent c.args.stamp c.args.pose c.args.k c.requires.1)
-    z c.admit_new-admitted.result c.in_default.keys2 (c.admit_new-admitted.ensures z.instants z.poses c.args.stamp)
+    z c.admit_new-admitted.result c.in_default.not-Done (c.admit_new-admitted.ensures z.instants z.poses c.args.stamp)
 
 pub new_row-requires : goal.new_row-requires
 new_row-requires c =

@@ -25,4 +25,4 @@ returns-in-ZeroLengthNormalization c = rw c.in-Product.is
 
 pub returns-in_default-inverse : goal.returns-in_default-inverse
 returns-in_default-inverse c = rw c.in-Product.is
-    (inverse_onto c.in-Product.side (side_of c.args.source) _ (inverse_left c.inverse.result _ c.in_default-inverse.keys4 c.inverse.ensures))
+    (inverse_onto c.in-Product.side (side_of c.args.source) _ (inverse_left c.inverse.result _ c.in_default-inverse.not-Pose c.in_default-inverse.not-NonFinite c.in_default-inverse.not-ZeroLengthNormalization c.inverse.ensures))

@@ -14,16 +14,6 @@ use Rattle.registry.proofs.layout.RowLaws.{used_header}
 use Rattle.registry.proofs.paths.TreeWalks.{above_by, above_used, climb_on, climb_start, climb_ends, climb_here, climb_on_lem}
 use Rattle.registry.proofs.paths.climbs.climb_to.Goals as goal
 
-step : (c : tie.After-parent invariant-loop decreases-loop) (i : List ℕ) (p : List Float) → (let l = c.before.before.before.before in
-    let a = l.before.before.before.args in
-    climb_to (tree_of (store_of a.head.now i p)) a.frame a.goal ≡ climb_on a.goal l.loop.steps (c.parent.given.0.0 ∷ rest c i p))
-step c i p =
-    let m = c.before.before in
-    let l = m.before.before in
-    l.loop.invariant.1 i p
-    ∙ ap (climb_on l.before.before.before.args.goal l.loop.steps)
-    (above_by _ l.loop.at c.parent.given.1 m.parent_of.ensures (l.before.used.result - l.loop.steps) (omega arith) i p)
-
 pub used-used-requires : goal.used-used-requires
 used-used-requires c = used_header c.args.head.now c.requires.within
 
@@ -46,13 +36,19 @@ returns-in_default c i p = let goal = c.args.goal in
 pub returns-then-at-goal : goal.returns-then-at-goal
 returns-then-at-goal c i p =
     let rest : List ℕ → List Float → List ℕ = λ i p. above (c.used-used.result - c.loop-steps.steps - 1) (tree_of (store_of c.args.head.now i p)) c.in-Frame.parent in
-    sym (step c.before.before i p ∙ climb_here c.args.goal c.loop-steps.steps _ (rest i p) c.if-at-goal.true)
+    let step : (i : List ℕ) (p : List Float) → (let a = c.args in climb_to (tree_of (store_of a.head.now i p)) a.frame a.goal ≡ climb_on a.goal c.loop-steps.steps (c.in-Frame.parent ∷ rest i p)) = λ i p. c.loop-steps.invariant.1 i p
+    ∙ ap (climb_on c.args.goal c.loop-steps.steps)
+    (above_by _ c.loop-steps.at c.in-Frame.is c.parent_of.ensures (c.used-used.result - c.loop-steps.steps) (omega arith) i p) in
+    sym (step i p ∙ climb_here c.args.goal c.loop-steps.steps _ (rest i p) c.if-at-goal.true)
 
 pub loop-steps-preserved : goal.loop-steps-preserved
 loop-steps-preserved c =
     let rest : List ℕ → List Float → List ℕ = λ i p. above (c.used-used.result - c.loop-steps.steps - 1) (tree_of (store_of c.args.head.now i p)) c.in-Frame.parent in
+    let step : (i : List ℕ) (p : List Float) → (let a = c.args in climb_to (tree_of (store_of a.head.now i p)) a.frame a.goal ≡ climb_on a.goal c.loop-steps.steps (c.in-Frame.parent ∷ rest i p)) = λ i p. c.loop-steps.invariant.1 i p
+    ∙ ap (climb_on c.args.goal c.loop-steps.steps)
+    (above_by _ c.loop-steps.at c.in-Frame.is c.parent_of.ensures (c.used-used.result - c.loop-steps.steps) (omega arith) i p) in
     let less : c.used-used.result - c.loop-steps.steps - 1 ≡ c.used-used.result - (c.loop-steps.steps + 1) = omega arith in
-    (omega arith, λ i p. rw (← less) (step c.before.before i p ∙ climb_on_lem c.args.goal c.loop-steps.steps _ (rest i p) c.if-at-goal.false))
+    (omega arith, λ i p. rw (← less) (step i p ∙ climb_on_lem c.args.goal c.loop-steps.steps _ (rest i p) c.if-at-goal.false))
 
 pub returns : goal.returns
 returns c i p = let l = c.loop-steps in

@@ -15,9 +15,6 @@ use Rattle.registry.proofs.layout.RowLaws.{fewer_rows}
 use Rattle.registry.proofs.soundness.HeadTests.{rising_rows, too_many, not_rising, not_fitting, not_named, circle_decides}
 use Rattle.registry.proofs.soundness.head_sound.head_sound.Goals as goal
 
-rises : (c : tie.Else2) (i : List ℕ) (p : List Float) → rising (tree_of (store_of (start c).args.head.now i p)) ≡ true
-rises c i p = sym (c.before.children-rise.ensures i p) ∙ not-false _ c.if2.false
-
 pub rows-requires : goal.rows-requires
 rows-requires c =
     let header : HasHeader c.args.head.now = let h = c.args.head.now in fewer_rows h 0 (rows_in (head_of h)) (omega arith) c.requires.1 in
@@ -52,7 +49,8 @@ rows_fit-requires c =
 pub returns-then-not-rows_fit : goal.returns-then-not-rows_fit
 returns-then-not-rows_fit c =
     let few : (let h = head_of c.args.head.now in used_in h ≤ rows_in h) = omega (arith, c.if-rows-used.false, c.used.ensures, c.rows.ensures) in
-    λ i p. not_fitting (store_of c.args.head.now i p) few (rises c.before.before i p)
+    let rises : (i : List ℕ) (p : List Float) → rising (tree_of (store_of c.args.head.now i p)) ≡ true = λ i p. sym (c.children_rise.ensures i p) ∙ c.if-not-children_rise.false in
+    λ i p. not_fitting (store_of c.args.head.now i p) few (rises i p)
     (sym c.rows_fit.ensures ∙ c.if-not-rows_fit.true)
 
 pub age_named-requires : goal.age_named-requires
@@ -63,21 +61,24 @@ age_named-requires c =
 pub returns-then-not-age_named : goal.returns-then-not-age_named
 returns-then-not-age_named c =
     let few : (let h = head_of c.args.head.now in used_in h ≤ rows_in h) = omega (arith, c.if-rows-used.false, c.used.ensures, c.rows.ensures) in
+    let rises : (i : List ℕ) (p : List Float) → rising (tree_of (store_of c.args.head.now i p)) ≡ true = λ i p. sym (c.children_rise.ensures i p) ∙ c.if-not-children_rise.false in
     let fits : (let h = c.args.head.now in every (used_in (head_of h)) (row_fits h) ≡ true) = sym c.rows_fit.ensures ∙ c.if-not-rows_fit.false in
-    λ i p. not_named (store_of c.args.head.now i p) few (rises c.before.before.before.before i p) fits
+    λ i p. not_named (store_of c.args.head.now i p) few (rises i p) fits
     (sym c.age_named.ensures ∙ c.if-not-age_named.true)
 
 pub no_circle-requires : goal.no_circle-requires
 no_circle-requires c =
     let few : (let h = head_of c.args.head.now in used_in h ≤ rows_in h) = omega (arith, c.if-rows-used.false, c.used.ensures, c.rows.ensures) in
     let used : UsedRows c.args.head.now = let h = c.args.head.now in fewer_rows h (used_in (head_of h)) (rows_in (head_of h)) (few) c.requires.1 in
+    let rises : (i : List ℕ) (p : List Float) → rising (tree_of (store_of c.args.head.now i p)) ≡ true = λ i p. sym (c.children_rise.ensures i p) ∙ c.if-not-children_rise.false in
     let f = few in
-    (rising_rows c.args.head.now used [] [] (rises c.before.before.before.before [] []), omega arith)
+    (rising_rows c.args.head.now used [] [] (rises [] []), omega arith)
 
 pub returns : goal.returns
 returns c =
     let few : (let h = head_of c.args.head.now in used_in h ≤ rows_in h) = omega (arith, c.if-rows-used.false, c.used.ensures, c.rows.ensures) in
+    let rises : (i : List ℕ) (p : List Float) → rising (tree_of (store_of c.args.head.now i p)) ≡ true = λ i p. sym (c.children_rise.ensures i p) ∙ c.if-not-children_rise.false in
     let fits : (let h = c.args.head.now in every (used_in (head_of h)) (row_fits h) ≡ true) = sym c.rows_fit.ensures ∙ c.if-not-rows_fit.false in
     λ i p. c.no_circle.ensures i p
-    ∙ circle_decides (store_of c.args.head.now i p) few (rises c.before.before.before.before.before i p) fits
+    ∙ circle_decides (store_of c.args.head.now i p) few (rises i p) fits
     (sym c.age_named.ensures ∙ c.if-not-age_named.false)
