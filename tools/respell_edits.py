@@ -59,7 +59,7 @@ def lines(path):
 
 def plain(text):
     """Paths as they are today."""
-    return re.sub(r"Rattle·(\w+)(?:·(?:specs|proofs)\.(?=(?:specs|proofs)\.)|(?=\.))", lambda m: "Rattle." + m[1] + ("." if m[0].endswith(".") else ""), text)
+    return re.sub(r"·(specs|proofs)\.(?:\1\.)?", r".\1.", text).replace("Rattle·", "Rattle.").replace("Option·", "Option.")
 
 
 def projected(text):
@@ -85,7 +85,7 @@ class Names:
             return TEXTS.get(text, text)
         path = f"{self.old}/crates/{crate}/{file}"
         gone = respell.turned(path, self.texts[path], self.shared, self.crates) | LIBRARY
-        return respell.respelled(projected(plain(text)).replace("Option·map", "Option.map"), gone, False)
+        return respell.respelled(projected(plain(text)), gone, False)
 
 
 def write(root, old):
