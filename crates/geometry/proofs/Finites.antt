@@ -1,7 +1,7 @@
 -- A pose that an operation answers is finite, and what is not finite stays so: each component of a product of quaternions takes in every component of
 -- both, a sum is finite only where both terms are, and so is a product of floats, since infinity times 0 is NaN.
 use Prim.Native.Nat.{ℕ}
-use mathlib.Core.Path.{◌≡◌, refl, sym, subst}
+use mathlib.Core.Path.{◌≡◌, sym, subst}
 use mathlib.Core.Bool.{Bool, true, false, not, cond, ◌&&◌}
 use lib.Dec.{T, eqb}
 use lib.Ieee.{Float, nan, inf, fin, unlike, neg, mul as times, sub, lt}
@@ -10,7 +10,7 @@ use lib.Ieee.Fits.{and_l, and_r}
 use lib.Ieee.Scale.{finite}
 use borrow.Author.Tests.{not-false}
 use Rattle.time.specs.Float.{◌⊕◌, ◌⊖◌, ◌⊗◌, ◌⊘◌, zero64, one64, abs}
-use Rattle.time.specs.Reply.{Carried, norm as carriedNorm, Reply, answer, refusal, nothing, refuse, ◌then◌}
+use Rattle.time.specs.Reply.{Carried, norm as carriedNorm, answer, refusal, nothing, refuse}
 use Rattle.time.proofs.Replies.{refusal_answer, answer_in, refuse_answered, then_answered}
 use Rattle.geometry.specs.declared.vector3.Vector3.{Vector3}
 use Rattle.geometry.specs.declared.quaternion.Quaternion.{Quaternion}

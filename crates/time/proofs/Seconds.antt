@@ -1,16 +1,15 @@
 -- The seconds of a difference, exactly and then rounded: finite, positive and monotone. Assumes nothing.
-use mathlib.Core.Path.{◌≡◌, refl, sym, ap, ap₂, ◌∙◌, subst}
+use mathlib.Core.Path.{◌≡◌, refl, sym, ap, ◌∙◌, subst}
 use mathlib.Core.Logic.{◌⊎◌, inl, inr}
-use mathlib.Core.Bool.{Bool, true, false, not, cond, ◌||◌, ◌&&◌}
+use mathlib.Core.Bool.{Bool, true, false, cond, ◌||◌, ◌&&◌}
 use Prim.Native.Nat.{ℕ, zero, suc, ◌+◌, ◌-◌, ◌*◌, ◌/◌, ◌%◌, ◌^◌, ◌≤◌, ◌<◌}
-use native.Mathlib.Nat.{mul_comm, mul_assoc, mul_left_comm, mul-one, one-mul, mul-add, add-mul, mul-pos, zero-lt-suc, lt_irrefl, le_of_eq, le_of_lt, le_trans, lt_of_lt_of_le, zero-mul, mul-le-mul_left, mul-le-mul_right, mul-le-mul, le-add_right, eq-or-lt_of_le, lt_of_le_of_lt, mod-lt, mul_right_comm, suc-mul}
+use native.Mathlib.Nat.{mul_comm, mul_assoc, mul_left_comm, mul-one, one-mul, mul-add, add-mul, mul-pos, zero-lt-suc, lt_irrefl, le_of_eq, le_of_lt, le_trans, lt_of_lt_of_le, mul-le-mul_right, eq-or-lt_of_le, lt_of_le_of_lt, mod-lt, mul_right_comm, suc-mul}
 use native.Mathlib.Omega.{arith}
-use lib.Dec.{T, lit<, lit≤, leb, ltb, eqb, ltb→lt, eqb→eq, eqb-suc-zero}
-use lib.IntN.{ℤ, pos, negsuc}
-use lib.Pow.{pow_pos}
-use lib.Ieee.{Float, nan, inf, fin, binary64, up, down, add, sum, div, round, le, lt, eq, of_int, of_bits, units, odd, below, level}
+use lib.Dec.{T, lit<, lit≤, ltb, eqb, ltb→lt, eqb→eq, eqb-suc-zero}
+use lib.IntN.{ℤ, pos}
+use lib.Ieee.{Float, nan, inf, fin, binary64, up, down, add, sum, div, round, le, lt, eq, of_int, of_bits, units, odd}
 use lib.Ieee.Exact.{HasValue, odd_sign}
-use lib.Ieee.Fits.{down_pos, up_pos, round_is, and_l}
+use lib.Ieee.Fits.{round_is}
 use lib.Ieee.Order.{round_mono, kept, drop}
 use lib.Ieee.Scale.{round_same}
 use lib.Ieee.Back.{round_whole}

@@ -1,7 +1,5 @@
 use mathlib.Core.Path.{◌≡◌}
 use lib.Ieee.{lt}
-use borrow.Author.Rules.{rules}
-use borrow.Author.Tests.{not-true, not-false}
 use Rattle.time.specs.Float.{◌⊖◌, one64, abs}
 use Rattle.time.specs.Reply.{answer, norm, refuse}
 use Rattle.geometry.specs.Transform.{tolerance, validate}

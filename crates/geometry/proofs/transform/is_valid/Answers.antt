@@ -1,5 +1,4 @@
 use mathlib.Core.Path.{sym}
-use borrow.Author.Rules.{rules}
 use Rattle.geometry.proofs.Squares.{differences}
 use Rattle.geometry.proofs.ValidFast.{valid_fast}
 use Rattle.geometry.proofs.transform.is_valid.Goals as goal

@@ -3,7 +3,6 @@ use mathlib.Core.Path.{◌≡◌, refl, sym, subst, ◌∙◌}
 use mathlib.Core.Bool.{Bool, true, false, not, ◌&&◌}
 use lib.Dec.{T}
 use lib.Ieee.{lt}
-use borrow.Author.Rules.{rules}
 use Rattle.time.specs.Float.{◌⊖◌, one64, abs}
 use Rattle.time.specs.Reply.{Carried, answer, nothing, norm, refuse}
 use Rattle.geometry.specs.declared.isometry.Isometry.{Isometry}

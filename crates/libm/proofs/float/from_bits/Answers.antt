@@ -1,4 +1,3 @@
-use borrow.Author.Rules.{rules}
 use Rattle.libm.proofs.FloatBits.{nan_value, not_nan_bits}
 use Rattle.libm.proofs.float.from_bits.Goals as goal
 

@@ -1,4 +1,3 @@
-use borrow.Author.Rules.{rules}
 use Rattle.libm.proofs.FloatBits.{nan_bits_lem, not_nan}
 use Rattle.libm.proofs.float.to_bits.Goals as goal
 

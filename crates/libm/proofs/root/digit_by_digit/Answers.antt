@@ -2,7 +2,7 @@ use mathlib.Core.Path.{◌≡◌, refl, sym, ap, ◌∙◌}
 use Prim.Native.Nat.{ℕ, ◌+◌, ◌*◌}
 use native.Mathlib.Omega.{arith}
 use native.Mathlib.Nat.{mul-one, zero-add}
-use Rattle.libm.proofs.RootDigits.{Turn, digit_one, digit_zero, last_bit}
+use Rattle.libm.proofs.RootDigits.{digit_one, digit_zero, last_bit}
 use Rattle.libm.proofs.root.digit_by_digit.Goals as goal
 
 pub loop-bit-init : goal.loop-bit-init

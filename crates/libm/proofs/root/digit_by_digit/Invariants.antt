@@ -1,8 +1,4 @@
-use mathlib.Core.Path.{◌≡◌, refl, sym, ap, ◌∙◌}
-use Prim.Native.Nat.{ℕ, ◌+◌, ◌*◌}
-use native.Mathlib.Omega.{arith}
-use native.Mathlib.Nat.{mul-one, zero-add}
-use Rattle.libm.proofs.RootDigits.{Turn, digit_one, digit_zero, last_bit}
+use Rattle.libm.proofs.RootDigits.{Turn}
 use Rattle.libm.proofs.root.digit_by_digit.Given as goal
 
 abbrev pub invariant-loop-bit : goal.invariant-loop-bit

@@ -1,6 +1,5 @@
 use Prim.Native.Nat.{◌*◌, ◌/◌, ◌%◌, ◌^◌}
 use native.Mathlib.Omega.{arith}
-use borrow.Author.Rules.{rules}
 use Rattle.libm.proofs.LowerDigits.{Quotient, quotient, kept, kept_least, lowered, lowered_least, room}
 use Rattle.libm.proofs.root.lower_digits.Goals as goal
 

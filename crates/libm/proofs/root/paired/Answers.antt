@@ -1,5 +1,4 @@
 use native.Mathlib.Omega.{arith}
-use borrow.Author.Rules.{rules}
 use Rattle.libm.proofs.Split.{even_exponent, odd_exponent}
 use Rattle.libm.proofs.root.paired.Goals as goal
 

@@ -1,6 +1,5 @@
 use native.Mathlib.Nat.{mul-le-mul}
 use native.Mathlib.Omega.{arith}
-use borrow.Author.Rules.{rules}
 use Rattle.libm.proofs.LowerDigits.{not_zero}
 use Rattle.libm.proofs.root.root_digits.Goals as goal
 

@@ -2,7 +2,6 @@ use Prim.Native.Nat.{◌/◌, ◌^◌}
 use native.Mathlib.Omega.{arith}
 use lib.Dec.{le→leb}
 use lib.Ieee.{in_float}
-use borrow.Author.Rules.{rules}
 use Rattle.libm.proofs.SqrtCases.{finite_bits}
 use Rattle.libm.proofs.root.root_estimate.Goals as goal
 

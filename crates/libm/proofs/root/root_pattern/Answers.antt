@@ -1,7 +1,6 @@
 use mathlib.Core.Path.{sym, ◌∙◌}
 use Prim.Native.Nat.{◌+◌, ◌/◌, ◌%◌}
 use native.Mathlib.Omega.{arith}
-use borrow.Author.Rules.{rules}
 use Rattle.libm.specs.Sqrt.{units_of}
 use Rattle.libm.proofs.Pack.{packed}
 use Rattle.libm.proofs.RootRounded.{rounded, digits_range}

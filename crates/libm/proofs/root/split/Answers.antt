@@ -4,7 +4,6 @@ use native.Mathlib.Omega.{arith}
 use native.Mathlib.Nat.{lt_of_le_of_lt}
 use lib.Dec.{lit<}
 use lib.Count.{leading_le}
-use borrow.Author.Rules.{rules}
 use Rattle.libm.proofs.Split.{normal, subnormal, subnormal_units}
 use Rattle.libm.proofs.root.split.Goals as goal
 

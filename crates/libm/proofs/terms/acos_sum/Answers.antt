@@ -1,6 +1,5 @@
 use mathlib.Core.Path.{sym, ◌∙◌, subst}
 use lib.Dec.{T}
-use borrow.Author.Rules.{rules}
 use Rattle.time.specs.Float.{one64}
 use Rattle.libm.proofs.Series.{run_all}
 use Rattle.libm.proofs.Enclosure.{met, tested, square_itself}

@@ -1,4 +1,3 @@
-use borrow.Author.Rules.{rules}
 use Rattle.libm.proofs.Enclosure.{all_but_eight}
 use Rattle.libm.proofs.terms.enclosed.Goals as goal
 

@@ -1,7 +1,6 @@
 use Prim.Native.Nat.{◌-◌, ◌/◌}
 use native.Mathlib.Nat.{div-le_self}
 use native.Mathlib.Omega.{arith}
-use borrow.Author.Rules.{rules}
 use Rattle.libm.proofs.terms.enough.Goals as goal
 
 pub overflow_add-k : goal.overflow_add-k

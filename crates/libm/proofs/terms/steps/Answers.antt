@@ -1,10 +1,8 @@
-use mathlib.Core.Path.{◌≡◌, refl, sym, ap, ◌∙◌}
+use mathlib.Core.Path.{refl, sym, ap, ◌∙◌}
 use Prim.Native.Nat.{◌-◌, ◌≤◌, ◌<◌}
 use native.Mathlib.Omega.{arith}
-use borrow.Author.Rules.{rules}
 use Rattle.time.specs.Float.{whole}
 use Rattle.libm.specs.Libm.{numerator, denominator}
-use Rattle.libm.specs.Enclosure.{run}
 use Rattle.libm.proofs.Series.{run_step, run_end}
 use Rattle.libm.proofs.Table.{table, entry}
 use Rattle.libm.proofs.terms.steps.Goals as goal

@@ -1,12 +1,6 @@
-use mathlib.Core.Path.{◌≡◌, refl, sym, ap, ◌∙◌}
-use Prim.Native.Nat.{◌-◌, ◌≤◌, ◌<◌}
-use native.Mathlib.Omega.{arith}
-use borrow.Author.Rules.{rules}
-use Rattle.time.specs.Float.{whole}
-use Rattle.libm.specs.Libm.{numerator, denominator}
+use mathlib.Core.Path.{◌≡◌}
+use Prim.Native.Nat.{◌-◌, ◌≤◌}
 use Rattle.libm.specs.Enclosure.{run}
-use Rattle.libm.proofs.Series.{run_step, run_end}
-use Rattle.libm.proofs.Table.{table, entry}
 use Rattle.libm.proofs.terms.steps.Given as goal
 
 abbrev pub invariant-loop-k : goal.invariant-loop-k

@@ -1,6 +1,5 @@
 use mathlib.Core.Path.{ap, ◌∙◌}
 use lib.Ieee.{Float}
-use borrow.Author.Rules.{rules}
 use Rattle.time.specs.Float.{◌⊗◌, one64, two64}
 use Rattle.libm.specs.Libm.{acos_steps, acos}
 use Rattle.libm.proofs.trig.acos.Goals as goal

@@ -1,9 +1,7 @@
-use mathlib.Core.Path.{◌≡◌, refl, ap, ◌∙◌}
-use Prim.Native.Nat.{◌≤◌}
+use mathlib.Core.Path.{refl, ap, ◌∙◌}
 use native.Mathlib.Omega.{arith}
-use borrow.Author.Rules.{rules}
-use Rattle.time.specs.Float.{◌⊗◌, one64}
-use Rattle.libm.specs.Libm.{sin_steps, sin}
+use Rattle.time.specs.Float.{◌⊗◌}
+use Rattle.libm.specs.Libm.{sin}
 use Rattle.libm.proofs.Series.{sin_step, sin_end}
 use Rattle.libm.proofs.trig.sin.Goals as goal
 

@@ -1,10 +1,7 @@
-use mathlib.Core.Path.{◌≡◌, refl, ap, ◌∙◌}
+use mathlib.Core.Path.{◌≡◌}
 use Prim.Native.Nat.{◌≤◌}
-use native.Mathlib.Omega.{arith}
-use borrow.Author.Rules.{rules}
-use Rattle.time.specs.Float.{◌⊗◌, one64}
-use Rattle.libm.specs.Libm.{sin_steps, sin}
-use Rattle.libm.proofs.Series.{sin_step, sin_end}
+use Rattle.time.specs.Float.{one64}
+use Rattle.libm.specs.Libm.{sin_steps}
 use Rattle.libm.proofs.trig.sin.Given as goal
 
 abbrev pub invariant-loop-k : goal.invariant-loop-k

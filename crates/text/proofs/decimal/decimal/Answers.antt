@@ -1,5 +1,4 @@
 use mathlib.Core.Path.{◌∙◌}
-use borrow.Author.Rules.{rules}
 use Rattle.text.proofs.Parts.{decimal_empty, decimal_minus, decimal_plain}
 use Rattle.text.proofs.decimal.decimal.Goals as goal
 

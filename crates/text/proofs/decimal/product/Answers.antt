@@ -1,7 +1,6 @@
 use mathlib.Core.Path.{sym, ap, ◌∙◌}
 use Prim.Native.Nat.{ℕ}
 use native.Mathlib.Nat.{zero-add}
-use borrow.Author.Rules.{rules}
 use Rattle.text.specs.Decimal.{scaled}
 use Rattle.text.specs.Reading.{going_on}
 use Rattle.text.specs.Answers.{number_read, exponent_read}

@@ -1,5 +1,4 @@
 use mathlib.Core.Path.{sym, ap, ◌∙◌}
-use borrow.Author.Rules.{rules}
 use Rattle.text.specs.Answers.{number_read}
 use Rattle.text.proofs.Parts.{exponent_empty, exponent_down, exponent_down_none, exponent_up, exponent_up_none}
 use Rattle.text.proofs.decimal.read_exponent.Goals as goal

@@ -1,4 +1,3 @@
-use borrow.Author.Rules.{rules}
 use Rattle.text.proofs.Scaled.{too_many, too_high_lem, too_low_lem, multiplied, divided}
 use Rattle.text.proofs.decimal.scaled.Goals as goal
 

@@ -1,5 +1,4 @@
 use mathlib.Core.Path.{◌∙◌}
-use borrow.Author.Rules.{rules}
 use Rattle.text.proofs.Parts.{none_empty, some_read}
 use Rattle.text.proofs.decimal.some_digits.Goals as goal
 

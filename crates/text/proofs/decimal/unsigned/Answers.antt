@@ -2,7 +2,6 @@ use mathlib.Core.Path.{ap, ap₂, ◌∙◌}
 use mathlib.Core.Option.{Option, some}
 use Prim.Native.Nat.{ℕ, ◌<◌}
 use native.Mathlib.Omega.{arith}
-use borrow.Author.Rules.{rules}
 use lib.ListN.{length}
 use Rattle.text.specs.Decimal.{product}
 use Rattle.text.specs.Reading.{going_on}

@@ -1,5 +1,4 @@
 use native.Mathlib.Omega.{arith}
-use borrow.Author.Rules.{rules}
 use mathlib.Core.Path.{sym}
 use Rattle.text.proofs.DigitCharacters.{digit_ten, digit_letter, digit_low, digit_between, digit_high}
 use Rattle.text.proofs.read.digit.Goals as goal

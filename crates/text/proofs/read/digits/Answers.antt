@@ -1,10 +1,9 @@
 use mathlib.Core.Path.{◌≡◌, refl, sym, ap, ◌∙◌}
 use mathlib.Core.Option.{Option, none}
-use Prim.Native.Nat.{ℕ, ◌+◌, ◌-◌, ◌*◌, ◌/◌, ◌^◌, ◌≤◌, ◌<◌}
+use Prim.Native.Nat.{ℕ, ◌+◌, ◌*◌, ◌/◌, ◌^◌, ◌≤◌, ◌<◌}
 use native.Mathlib.Omega.{arith}
-use borrow.Author.Rules.{rules}
 use borrow.Author.Tests.{lt-ltb}
-use lib.ListN.{length, drop, get_or}
+use lib.ListN.{drop, get_or}
 use Rattle.text.specs.Digits.{digit, number_from, below}
 use Rattle.text.specs.Reading.{going_on}
 use Rattle.text.proofs.Numbers.{number_more, number_other, number_last, number_over, product_above, product_within}

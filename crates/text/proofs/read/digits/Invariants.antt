@@ -1,13 +1,7 @@
-use mathlib.Core.Path.{◌≡◌, refl, sym, ap, ◌∙◌}
-use mathlib.Core.Option.{Option, none}
-use Prim.Native.Nat.{ℕ, ◌+◌, ◌-◌, ◌*◌, ◌/◌, ◌^◌, ◌≤◌, ◌<◌}
-use native.Mathlib.Omega.{arith}
-use borrow.Author.Rules.{rules}
-use borrow.Author.Tests.{lt-ltb}
-use lib.ListN.{length, drop, get_or}
-use Rattle.text.specs.Digits.{digit, number_from, below}
-use Rattle.text.specs.Reading.{going_on}
-use Rattle.text.proofs.Numbers.{number_more, number_other, number_last, number_over, product_above, product_within}
+use mathlib.Core.Path.{◌≡◌}
+use Prim.Native.Nat.{◌-◌, ◌/◌, ◌^◌, ◌<◌}
+use lib.ListN.{length, drop}
+use Rattle.text.specs.Digits.{number_from}
 use Rattle.text.proofs.read.digits.Given as goal
 
 abbrev pub invariant-loop-i : goal.invariant-loop-i

@@ -1,9 +1,6 @@
-use mathlib.Core.Path.{◌≡◌, ap}
-use Prim.Native.Nat.{◌+◌, ◌-◌}
+use mathlib.Core.Path.{ap}
 use native.Mathlib.Omega.{arith}
-use borrow.Author.Rules.{rules}
-use lib.ListN.{length, drop}
-use Rattle.text.specs.Decimal.{before}
+use lib.ListN.{length}
 use Rattle.text.proofs.Before.{before_past, before_found, before_more}
 use Rattle.text.proofs.read.first.Goals as goal
 

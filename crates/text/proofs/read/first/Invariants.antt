@@ -1,10 +1,7 @@
-use mathlib.Core.Path.{◌≡◌, ap}
+use mathlib.Core.Path.{◌≡◌}
 use Prim.Native.Nat.{◌+◌, ◌-◌}
-use native.Mathlib.Omega.{arith}
-use borrow.Author.Rules.{rules}
 use lib.ListN.{length, drop}
 use Rattle.text.specs.Decimal.{before}
-use Rattle.text.proofs.Before.{before_past, before_found, before_more}
 use Rattle.text.proofs.read.first.Given as goal
 
 abbrev pub invariant-loop-i : goal.invariant-loop-i

@@ -1,5 +1,4 @@
 use mathlib.Core.Path.{sym, ap, ◌∙◌}
-use borrow.Author.Rules.{rules}
 use Rattle.text.specs.Answers.{number_read}
 use Rattle.text.proofs.Forms.{float_decimal, float_bits, float_no_bits}
 use Rattle.text.proofs.read.float_word.Goals as goal

@@ -1,6 +1,5 @@
 use mathlib.Core.Path.{◌∙◌}
 use native.Mathlib.Omega.{arith}
-use borrow.Author.Rules.{rules}
 use Rattle.text.specs.Reading.{float}
 use Rattle.text.proofs.Words.{end_within, no_word, word_read_lem}
 use Rattle.text.proofs.read.read_float.Goals as goal

@@ -1,7 +1,6 @@
 use mathlib.Core.Path.{◌≡◌, sym, ap, ◌∙◌}
 use mathlib.Core.Option.{some}
 use native.Mathlib.Omega.{arith}
-use borrow.Author.Rules.{rules}
 use Rattle.text.specs.Reading.{read_at, number}
 use Rattle.text.specs.Answers.{number_read}
 use Rattle.text.proofs.Forms.{frame_value, frame_over, frame_none}

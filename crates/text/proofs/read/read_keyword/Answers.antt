@@ -1,5 +1,4 @@
 use native.Mathlib.Omega.{arith}
-use borrow.Author.Rules.{rules}
 use Rattle.text.specs.Reading.{keyword}
 use Rattle.text.proofs.Words.{end_within, no_word, word_read_lem}
 use Rattle.text.proofs.read.read_keyword.Goals as goal

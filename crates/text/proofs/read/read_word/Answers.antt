@@ -1,4 +1,3 @@
-use borrow.Author.Rules.{rules}
 use Rattle.text.specs.Reading.{any_word}
 use Rattle.text.proofs.Words.{no_word, word_read_lem}
 use Rattle.text.proofs.read.read_word.Goals as goal

@@ -1,9 +1,5 @@
-use mathlib.Core.Path.{◌≡◌, sym, ◌∙◌}
-use Prim.Native.Nat.{◌-◌}
+use mathlib.Core.Path.{sym, ◌∙◌}
 use native.Mathlib.Omega.{arith}
-use borrow.Author.Rules.{rules}
-use lib.ListN.{length, drop}
-use Rattle.text.specs.Reading.{same}
 use Rattle.text.proofs.Equal.{same_lengths, same_more, same_differs, same_last}
 use Rattle.text.proofs.read.same.Goals as goal
 

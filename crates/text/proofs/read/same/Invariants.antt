@@ -1,10 +1,7 @@
-use mathlib.Core.Path.{◌≡◌, sym, ◌∙◌}
+use mathlib.Core.Path.{◌≡◌}
 use Prim.Native.Nat.{◌-◌}
-use native.Mathlib.Omega.{arith}
-use borrow.Author.Rules.{rules}
 use lib.ListN.{length, drop}
 use Rattle.text.specs.Reading.{same}
-use Rattle.text.proofs.Equal.{same_lengths, same_more, same_differs, same_last}
 use Rattle.text.proofs.read.same.Given as goal
 
 abbrev pub invariant-loop-i : goal.invariant-loop-i

@@ -1,5 +1,4 @@
 use mathlib.Core.Path.{sym}
-use borrow.Author.Rules.{rules}
 use Rattle.text.proofs.DigitCharacters.{digit_character_ten, digit_character_letter}
 use Rattle.text.proofs.write.digit_character.Goals as goal
 

@@ -1,8 +1,5 @@
-use mathlib.Core.Path.{◌≡◌, refl}
-use Prim.Native.Nat.{ℕ, suc, ◌+◌, ◌^◌, ◌<◌}
+use mathlib.Core.Path.{refl}
 use native.Mathlib.Omega.{arith}
-use borrow.Author.Rules.{rules}
-use Rattle.text.specs.Digits.{digit_count}
 use Rattle.text.proofs.DigitCounts.{counted, digit_count_last}
 use Rattle.text.proofs.write.digit_count.Goals as goal
 

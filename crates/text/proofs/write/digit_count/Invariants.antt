@@ -1,9 +1,6 @@
-use mathlib.Core.Path.{◌≡◌, refl}
+use mathlib.Core.Path.{◌≡◌}
 use Prim.Native.Nat.{ℕ, suc, ◌+◌, ◌^◌, ◌<◌}
-use native.Mathlib.Omega.{arith}
-use borrow.Author.Rules.{rules}
 use Rattle.text.specs.Digits.{digit_count}
-use Rattle.text.proofs.DigitCounts.{counted, digit_count_last}
 use Rattle.text.proofs.write.digit_count.Given as goal
 
 abbrev pub invariant-loop-rest : goal.invariant-loop-rest

@@ -1,10 +1,9 @@
-use mathlib.Core.Path.{◌≡◌, refl, sym, ap, ◌∙◌}
+use mathlib.Core.Path.{refl, sym, ap, ◌∙◌}
 use mathlib.Core.List.{List}
-use Prim.Native.Nat.{ℕ, ◌+◌, ◌-◌, ◌≤◌}
+use Prim.Native.Nat.{ℕ, ◌+◌}
 use native.Mathlib.Nat.{add-zero}
-use borrow.Author.Rules.{rules}
-use borrow.Author.Tests.{not-true, not-false, leb-true, leb-false}
-use lib.ListN.{length, drop, length-set}
+use borrow.Author.Tests.{leb-true, leb-false}
+use lib.ListN.{length, length-set}
 use lib.Seq.{sets}
 use Rattle.text.proofs.Stores.{written_room, written_none, sets_more, sets_last}
 use Rattle.text.proofs.write.write_bytes.Goals as goal

@@ -1,14 +1,8 @@
-use mathlib.Core.Path.{◌≡◌, refl, sym, ap, ◌∙◌}
-use mathlib.Core.List.{List}
-use Prim.Native.Nat.{ℕ, ◌+◌, ◌-◌, ◌/◌, ◌≤◌}
-use native.Mathlib.Nat.{mod-lt}
-use native.Mathlib.Omega.{arith}
-use borrow.Author.Rules.{rules}
-use borrow.Author.Tests.{not-true, not-false, leb-true, leb-false}
-use lib.ListN.{length, set, length-set}
+use mathlib.Core.Path.{◌≡◌}
+use Prim.Native.Nat.{◌+◌, ◌≤◌}
+use lib.ListN.{length}
 use lib.Seq.{sets}
 use Rattle.text.specs.Digits.{digits}
-use Rattle.text.proofs.Stores.{written_room, written_none, digits_back, digits_done, length_digits}
 use Rattle.text.proofs.write.write_digits.Given as goal
 
 abbrev pub invariant-loop-i : goal.invariant-loop-i

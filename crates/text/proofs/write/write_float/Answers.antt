@@ -1,5 +1,4 @@
 use mathlib.Core.Path.{◌≡◌}
-use borrow.Author.Rules.{rules}
 use lib.Ieee.{binary64, to_bits}
 use Rattle.text.proofs.FloatText.{nan_text, bits_text}
 use Rattle.text.proofs.write.write_float.Goals as goal

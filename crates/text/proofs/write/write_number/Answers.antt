@@ -1,4 +1,3 @@
-use borrow.Author.Rules.{rules}
 use Rattle.text.proofs.write.write_number.Goals as goal
 
 pub returns : goal.returns

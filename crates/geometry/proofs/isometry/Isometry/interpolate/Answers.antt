@@ -1,5 +1,4 @@
 use mathlib.Core.Path.{sym, ◌∙◌}
-use borrow.Author.Rules.{rules}
 use Rattle.geometry.specs.Isometry.{finite, interpolate}
 use Rattle.geometry.proofs.NoPose.{no_pose_lem, only_reversed}
 use Rattle.geometry.proofs.isometry.Isometry.interpolate.Goals as goal

@@ -1,5 +1,4 @@
 use mathlib.Core.Path.{ap}
-use borrow.Author.Rules.{rules}
 use Rattle.time.specs.Reply.{answer}
 use Rattle.geometry.specs.Isometry.{interpolated}
 use Rattle.geometry.proofs.isometry.Isometry.interpolated.Goals as goal

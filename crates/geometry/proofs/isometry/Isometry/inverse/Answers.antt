@@ -1,4 +1,3 @@
-use borrow.Author.Rules.{rules}
 use Rattle.geometry.specs.Isometry.{inverse}
 use Rattle.geometry.proofs.isometry.Isometry.inverse.Goals as goal
 

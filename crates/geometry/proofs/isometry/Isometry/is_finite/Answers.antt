@@ -1,4 +1,3 @@
-use borrow.Author.Rules.{rules}
 use Rattle.geometry.proofs.isometry.Isometry.is_finite.Goals as goal
 
 pub returns-then-is_finite : goal.returns-then-is_finite

@@ -1,4 +1,3 @@
-use borrow.Author.Rules.{rules}
 use Rattle.geometry.specs.Isometry.{finite, mul}
 use Rattle.geometry.proofs.isometry.Isometry.mul.Goals as goal
 

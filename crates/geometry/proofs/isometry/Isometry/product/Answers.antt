@@ -1,5 +1,4 @@
 use mathlib.Core.Path.{refl}
-use borrow.Author.Rules.{rules}
 use Rattle.geometry.specs.Isometry.{product}
 use Rattle.geometry.proofs.isometry.Isometry.product.Goals as goal
 

@@ -1,5 +1,4 @@
 use mathlib.Core.Path.{refl}
-use borrow.Author.Rules.{rules}
 use Rattle.geometry.specs.Quaternion.{arc}
 use Rattle.geometry.proofs.quaternion.Quaternion.arc.Goals as goal
 

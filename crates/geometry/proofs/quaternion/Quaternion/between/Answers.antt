@@ -1,4 +1,3 @@
-use borrow.Author.Rules.{rules}
 use Rattle.geometry.specs.Quaternion.{between}
 use Rattle.geometry.proofs.quaternion.Quaternion.between.Goals as goal
 

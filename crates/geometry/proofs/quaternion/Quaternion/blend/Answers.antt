@@ -1,7 +1,6 @@
 use mathlib.Core.Path.{◌≡◌, ap}
 use mathlib.Core.Bool.{cond}
 use lib.Ieee.{lt}
-use borrow.Author.Rules.{rules}
 use Rattle.time.specs.Float.{◌⊘◌, one64}
 use Rattle.geometry.specs.declared.quaternion.Quaternion.{Quaternion}
 use Rattle.geometry.specs.Quaternion.{epsilon, norm, scale, blend}

@@ -1,5 +1,4 @@
 use mathlib.Core.Path.{ap}
-use borrow.Author.Rules.{rules}
 use Rattle.time.specs.Reply.{answer}
 use Rattle.geometry.specs.Quaternion.{normalize}
 use Rattle.geometry.proofs.quaternion.Quaternion.normalize.Goals as goal

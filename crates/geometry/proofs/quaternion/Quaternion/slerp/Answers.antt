@@ -1,4 +1,3 @@
-use borrow.Author.Rules.{rules}
 use Rattle.geometry.specs.Quaternion.{slerp}
 use Rattle.geometry.proofs.quaternion.Quaternion.slerp.Goals as goal
 
