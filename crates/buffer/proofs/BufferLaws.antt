@@ -1,12 +1,10 @@
 -- The laws of specs/Laws.antt, each by the law of maps, samples or queries that says it.
-use Prim.Native.Nat.{ℕ}
 use mathlib.Core.Path.{◌≡◌, refl, ap, ◌∙◌}
-use mathlib.Core.Bool.{true}
 use mathlib.Core.Logic.{◌⊎◌, inl, inr}
-use Rattle.time.specs.Reply.{Carried, nothing, hop, Reply, answer, refusal, ◌then◌}
+use Rattle.time.specs.Reply.{nothing, hop, Reply, answer, refusal, ◌then◌}
 use Rattle.time.proofs.Replies.{then_answered}
 use Rattle.geometry.specs.declared.isometry.Isometry.{Isometry}
-use Rattle.geometry.specs.Isometry.{is_finite, finite}
+use Rattle.geometry.specs.Isometry.{finite}
 use Rattle.geometry.proofs.Finites.{finite_answer, finite_refusal}
 use Rattle.buffer.specs.Samples.{range, served, query}
 use Rattle.buffer.specs.Laws.{GetInsert, GetRemoveBefore, NewestInsert, ExpiryMonotone, OrderFree, ExactSample, OnlyNotServed, QueryFinite, QueryRefusals}

@@ -12,7 +12,6 @@ use Rattle.time.specs.declared.stamp.Stamp.{Stamp}
 use Rattle.time.specs.declared.stamp.Stamp.TheVariants as stamp
 use Rattle.time.specs.Reply.{frame, refusal}
 use Rattle.geometry.specs.declared.isometry.Isometry.{Isometry}
-use Rattle.buffer.specs.declared.kind.Kind.TheVariants.{Static}
 use Rattle.buffer.specs.Map.{get, put}
 use Rattle.buffer.specs.Samples.{Samples, newest, survives, insert}
 use Rattle.buffer.specs.Row.{instants_sound}

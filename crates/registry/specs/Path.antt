@@ -1,7 +1,7 @@
 -- The path of two frames, and the questions that are asked along it: lookup and latest common time.
-use Rattle.std.specs.Prelude.{ℕ, min, Bool, true, false, cond, not, ◌||◌, List, [], ◌∷◌, ◌++◌, eqb, ltb}
+use Rattle.std.specs.Prelude.{ℕ, min, Bool, false, cond, not, ◌||◌, List, [], ◌∷◌, ◌++◌, eqb, ltb}
 use Rattle.std.proofs.Math.Option.{Option, none, some}
-use Rattle.time.specs.Reply.{Carried, nothing, frame, hop, Reply, answer, refusal, refuse, ◌then◌}
+use Rattle.time.specs.Reply.{nothing, frame, hop, Reply, answer, refusal, refuse, ◌then◌}
 use Rattle.geometry.specs.declared.isometry.Isometry.{Isometry}
 use Rattle.geometry.specs.Isometry.{identity, finite, product, inverse}
 use Rattle.buffer.specs.Map.{get}

@@ -1,6 +1,6 @@
 -- The readings of document 01 that are marked P: what the definitions give, beside what is expected, as rows of one table.
 -- Proved in proofs/Readings.antt, where each row is computed.
-use Rattle.std.specs.Prelude.{ℕ, ◌+◌, ◌^◌, ◌≡◌, false, List, [], ◌∷◌, pos, negsuc, replicate, get_or, Float}
+use Rattle.std.specs.Prelude.{ℕ, ◌+◌, ◌^◌, ◌≡◌, false, List, [], ◌∷◌, negsuc, replicate, get_or, Float}
 use Rattle.std.proofs.Math.Option.{Option, none, some}
 use Rattle.std.specs.Float.{nan, fin, binary64}
 use Rattle.std.specs.Float.Ieee.{round}

@@ -7,7 +7,7 @@ use native.Mathlib.Omega.{arith}
 use lib.ListN.{length}
 use lib.Dec.{eqb, leb, ltb}
 use borrow.Author.Tests.{eqb-true, le-leb, leb-false, ltb-false}
-use Rattle.time.specs.Reply.{Carried, nothing, Reply, answer, refusal, refuse, ◌then◌}
+use Rattle.time.specs.Reply.{nothing, answer}
 use Rattle.time.proofs.Replies.{answer_in, refuse_answered, then_answered}
 use Rattle.geometry.specs.Transform.{validate, passes}
 use Rattle.buffer.specs.declared.kind.Kind.{Kind}

@@ -1,24 +1,20 @@
 -- What an addition leaves in a sound store: the refusal of its tests and every word as it was, a held child's row updated_edge, or a new child's row put in.
-use Prim.Native.Nat.{ℕ, suc, ◌+◌, ◌*◌, ◌≤◌, ◌<◌}
-use mathlib.Core.Path.{◌≡◌, refl, sym, ap, subst, ◌∙◌}
+use Prim.Native.Nat.{ℕ, ◌≤◌, ◌<◌}
+use mathlib.Core.Path.{◌≡◌, sym, ap, ◌∙◌}
 use mathlib.Core.Bool.{Bool, false}
 use mathlib.Core.Option.{Option, none, some}
-use mathlib.Core.List.{[], ◌∷◌, ◌++◌}
-use native.Mathlib.Omega.{arith}
-use lib.Dec.{ltb, leb}
-use lib.ListN.{length, get_or, set, take, drop}
-use borrow.Author.Tests.{le-ltb, le-leb}
-use types.Run.{OneOf}
-use denote.Enum.Declared.{tag_of}
+use mathlib.Core.List.{[]}
+use lib.Dec.{ltb}
+use lib.ListN.{length}
+use borrow.Author.Tests.{le-ltb}
 use Rattle.time.specs.declared.stamp.Stamp.{Stamp}
-use Rattle.time.specs.Reply.{Reply, answer, refusal, nothing, refuse}
+use Rattle.time.specs.Reply.{Reply, answer, nothing, refuse}
 use Rattle.geometry.specs.declared.isometry.Isometry.{Isometry}
 use Rattle.buffer.specs.declared.kind.Kind.{Kind}
-use Rattle.buffer.specs.Map.{all, get, put}
-use Rattle.buffer.specs.Words.{inserted}
+use Rattle.buffer.specs.Map.{get, put}
 use Rattle.buffer.specs.Samples.{insert}
-use Rattle.buffer.specs.Row.{FloatsFit, instant_words, pose_words}
-use Rattle.buffer.proofs.Maps.{Rising, rising_is, rising_put, put_again, length_put_new}
+use Rattle.buffer.specs.Row.{FloatsFit}
+use Rattle.buffer.proofs.Maps.{put_again}
 use Rattle.buffer.proofs.SampleLaws.{insert_empty}
 use Rattle.registry.specs.declared.answer.Answer.{Answer}
 use Rattle.registry.specs.Tree.{Edge, Tree, Limits, Addition, addition, kind_of, instant_of, updated_edge, add}
@@ -30,7 +26,6 @@ use Rattle.registry.specs.layout.Rows.{IsRow, AbsentAt, empty_row, with_row, put
 use Rattle.registry.specs.addition.Adding.{admits}
 use Rattle.registry.specs.declared.answer.Answer.TheVariants as enum
 use Rattle.registry.proofs.layout.SizeLaws.{sized_is}
-use Rattle.registry.proofs.soundness.Rules.{sound_is}
 use Rattle.registry.proofs.layout.TreeRows.{get_found, get_absent}
 use Rattle.registry.proofs.layout.NewRow.{blank_edge, with_empty, row_stored, empty_limits, empty_tree, empty_row_lem}
 use Rattle.registry.proofs.soundness.SoundStore.{sound_rows}

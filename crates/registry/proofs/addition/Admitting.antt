@@ -1,17 +1,13 @@
 -- The tests of an addition before 17: one of them refuses, or what follows them decides.
-use Prim.Native.Nat.{ℕ, suc, ◌<◌}
-use mathlib.Core.Path.{◌≡◌, refl, sym, ap, subst, ◌∙◌}
+use Prim.Native.Nat.{ℕ, ◌<◌}
+use mathlib.Core.Path.{◌≡◌, refl, sym, ap, ◌∙◌}
 use mathlib.Core.Bool.{Bool, true, false, not, ◌&&◌}
-use mathlib.Core.List.{List, [], ◌∷◌}
 use mathlib.Core.Option.{Option, none, some}
 use native.Mathlib.Omega.{arith}
 use lib.Dec.{eqb, leb}
 use lib.Ieee.{Float, lt}
 use lib.ListN.{length}
 use borrow.Author.Tests.{leb-false}
-use types.Run.{OneOf, miss}
-use denote.Struct.Field.{Field}
-use denote.Enum.Declared.{tag_of}
 use Rattle.time.specs.Float.{◌⊖◌, one64, abs}
 use Rattle.time.specs.Reply.{Reply, Carried, answer, refusal, nothing, norm, frame, refuse, ◌then◌}
 use Rattle.time.proofs.Replies.{refusal_answer}
@@ -23,8 +19,6 @@ use Rattle.geometry.specs.Vector3 as vector
 use Rattle.geometry.specs.Quaternion as quaternion
 use Rattle.geometry.specs.Transform.{tolerance, validate}
 use Rattle.geometry.specs.Answers as poses
-use Rattle.geometry.specs.contracts.transform.Answer.{the_type}
-use Rattle.registry.specs.contracts.answer.Answer as declared
 use Rattle.registry.specs.declared.answer.Answer.{Answer}
 use Rattle.registry.specs.declared.answer.Answer.TheVariants as enum
 use Rattle.registry.specs.Tree.{Edge, Tree, Limits, Addition, addition, is_absent, ancestors, member, same_kind, kind_of, other_parent, current_parent, other_kind}

@@ -1,14 +1,10 @@
 -- inverse(target side) times source side, tested, by what the inverse replies: 13, 14 or 3 where it refuses. Of two empty sides it is the identity.
-use mathlib.Core.Path.{◌≡◌, refl, sym, ap, ◌∙◌}
+use mathlib.Core.Path.{◌≡◌, refl}
 use mathlib.Core.Bool.{Bool, true, false, not}
 use mathlib.Core.Option.{Option, none, some}
-use mathlib.Core.List.{[], ◌∷◌}
-use Prim.Native.Nat.{ℕ}
 use native.Mathlib.Omega.{arith}
 use lib.Ieee.{lt, of_bits}
 use lib.Ieee.Scale.{finite}
-use types.Run.{OneOf, miss}
-use denote.Enum.Declared.{tag_of}
 use Rattle.time.specs.Reply.{Reply, answer, refusal, nothing, refuse, ◌then◌}
 use Rattle.time.specs.Float.{◌⊘◌, one64}
 use Rattle.geometry.specs.declared.isometry.Isometry.{Isometry}
@@ -20,7 +16,6 @@ use Rattle.geometry.specs.Vector3 as vector
 use Rattle.geometry.specs.Quaternion.{norm, scale, conjugate, normalize, rotate_vector, minus_one, epsilon}
 use Rattle.geometry.specs.Isometry.{identity, finite as finitePose, inverse_with_rotation, inverse}
 use Rattle.geometry.specs.Answers as geometry
-use Rattle.geometry.specs.contracts.transform.Answer.{the_type}
 use Rattle.registry.specs.Answers.{Value, pose}
 use Rattle.registry.specs.Path.{onto, joined, combined}
 

@@ -10,7 +10,6 @@ use Rattle.time.specs.Reply.{Reply, answer, refusal, nothing, ◌then◌}
 use Rattle.geometry.specs.declared.isometry.Isometry.{Isometry}
 use Rattle.registry.specs.declared.lookup.compose.Composed.{Composed}
 use Rattle.registry.specs.Tree.{Tree}
-use Rattle.registry.specs.Answers.{pose}
 use Rattle.registry.specs.Path.{Hop, fold, combined, lookup_along, lookup_apart}
 use Rattle.registry.specs.paths.Walks.{hops_to, ask_known}
 use Rattle.registry.specs.lookup.Sides.{composed_reply}

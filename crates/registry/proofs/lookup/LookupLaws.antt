@@ -6,7 +6,7 @@ use mathlib.Core.Bool.{Bool, true}
 use mathlib.Core.Option.{Option, none, some}
 use mathlib.Core.List.{List, [], ◌∷◌, ◌++◌}
 use lib.Dec.{eqb}
-use Rattle.time.specs.Reply.{Carried, nothing, frame, hop, Reply, answer, refusal, ◌then◌}
+use Rattle.time.specs.Reply.{Carried, nothing, frame, hop, Reply, refusal, ◌then◌}
 use Rattle.geometry.specs.declared.isometry.Isometry.{Isometry}
 use Rattle.geometry.specs.Isometry.{identity}
 use Rattle.buffer.specs.Map.{rising}

@@ -1,12 +1,12 @@
 -- The pose that a lookup answers is finite, and so is what every query and every fold on its way comes to.
 use Prim.Native.Nat.{ℕ}
-use mathlib.Core.Path.{◌≡◌, refl, sym, ap, subst⁻¹, ◌∙◌}
-use mathlib.Core.Bool.{true, false, not}
+use mathlib.Core.Path.{◌≡◌, refl, sym, subst⁻¹, ◌∙◌}
+use mathlib.Core.Bool.{true, not}
 use mathlib.Core.Option.{Option, none, some}
 use mathlib.Core.List.{List, [], ◌∷◌, ◌++◌}
 use native.Mathlib.Omega.{arith}
 use borrow.Author.Tests.{not-false}
-use Rattle.time.specs.Reply.{nothing, frame, Reply, answer, ◌then◌}
+use Rattle.time.specs.Reply.{nothing, frame, answer, ◌then◌}
 use Rattle.time.proofs.Replies.{refusal_answer, answer_in, refuse_answered, then_answered}
 use Rattle.geometry.specs.declared.isometry.Isometry.{Isometry}
 use Rattle.geometry.specs.Isometry.{identity, is_finite, finite, product, inverse}

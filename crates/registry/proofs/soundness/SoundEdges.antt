@@ -18,7 +18,6 @@ use Rattle.buffer.proofs.Alls.{all_get, all_put, all_weaken}
 use Rattle.buffer.proofs.SoundRows.{SoundSamples, instants_of}
 use Rattle.registry.specs.Tree.{Edge, Tree, Limits, ancestors, member}
 use Rattle.registry.specs.Laws.{SoundTree}
-use Rattle.registry.specs.Sound.{sound}
 use Rattle.registry.proofs.layout.StoreBack.{Fits}
 use Rattle.registry.proofs.paths.Climbing.{Grounded, grounded_ranked, ranked_grounded}
 use Rattle.registry.proofs.soundness.NoCircle.{circle_grounded, grounded_circle}

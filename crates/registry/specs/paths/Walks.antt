@@ -1,7 +1,7 @@
 -- The walks up from two frames, as the contracts of the private functions cite them. No public contract rests on these.
 use Rattle.std.specs.Prelude.{ℕ, ◌^◌, ◌<◌, ◌≡◌, true, cond, List, eqb, length}
 use Rattle.std.proofs.Math.Option.{some}
-use Rattle.time.specs.Reply.{Reply, answer, refusal, frame, ◌then◌}
+use Rattle.time.specs.Reply.{Reply, answer, refusal, frame}
 use Rattle.buffer.specs.Map.{get}
 use Rattle.registry.specs.declared.paths.climbs.Climb.{Climb}
 use Rattle.registry.specs.declared.paths.climbs.Climb.TheVariants.{Met, Root}
@@ -10,7 +10,7 @@ use Rattle.registry.specs.declared.paths.frames.Endpoints.TheVariants.{Same, Unk
 use Rattle.registry.specs.Tree.{Edge, Tree, ancestors, member}
 use Rattle.registry.specs.Store.{Store}
 use Rattle.registry.specs.Sound.{no_circle}
-use Rattle.registry.specs.Answers.{Value, at}
+use Rattle.registry.specs.Answers.{Value}
 use Rattle.registry.specs.layout.Rows.{InstantRows, SampleRows}
 use Rattle.registry.specs.paths.Edges.{OfTree}
 use Rattle.registry.specs.Path.{Hop, chain, until, side, connected, hops, ask}

@@ -1,4 +1,3 @@
-use borrow.Author.Rules.{rules}
 use mathlib.Core.Path.{ap, ◌∙◌}
 use Rattle.time.specs.Reply.{Reply}
 use Rattle.registry.specs.Answers.{Value}

@@ -1,9 +1,5 @@
 use borrow.Author.Rules.{rules}
-use Prim.Native.Nat.{◌-◌}
-use mathlib.Core.Path.{◌≡◌, refl, sym, ◌∙◌}
-use mathlib.Core.List.{map}
-use lib.ListN.{length, drop}
-use Rattle.text.specs.Writing.{byte_text, written_all}
+use mathlib.Core.Path.{refl, sym, ◌∙◌}
 use Rattle.answers.proofs.ByteDigits.{digits_more, digits_last}
 use Rattle.answers.proofs.maps.write_digits.Goals as goal
 

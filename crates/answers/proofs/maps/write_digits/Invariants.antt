@@ -1,10 +1,8 @@
-use borrow.Author.Rules.{rules}
 use Prim.Native.Nat.{◌-◌}
-use mathlib.Core.Path.{◌≡◌, refl, sym, ◌∙◌}
+use mathlib.Core.Path.{◌≡◌}
 use mathlib.Core.List.{map}
 use lib.ListN.{length, drop}
 use Rattle.text.specs.Writing.{byte_text, written_all}
-use Rattle.answers.proofs.ByteDigits.{digits_more, digits_last}
 use Rattle.answers.proofs.maps.write_digits.Given as goal
 
 -- `answers::maps::write_digits` meets its contract. The loop's invariant: the digits of all the bytes are those of the bytes that are left, behind what is written. Assumes nothing.

@@ -1,7 +1,6 @@
-use borrow.Author.Rules.{rules}
 use Prim.Native.Nat.{ℕ}
 use mathlib.Core.Path.{◌≡◌, refl, ap, ◌∙◌}
-use mathlib.Core.List.{List, [], ◌∷◌}
+use mathlib.Core.List.{List}
 use Rattle.time.specs.Reply.{Reply}
 use Rattle.registry.specs.Answers.{Value}
 use Rattle.map_loading.specs.Loading.{record_of, load_reply}

@@ -1,4 +1,3 @@
-use borrow.Author.Rules.{rules}
 use mathlib.Core.List.{[], ◌∷◌, map}
 use Rattle.text.specs.Writing.{byte_text}
 use Rattle.text.proofs.Behind.{one, behind}

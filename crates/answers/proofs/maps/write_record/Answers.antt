@@ -1,4 +1,3 @@
-use borrow.Author.Rules.{rules}
 use mathlib.Core.List.{[], ◌∷◌, ◌++◌}
 use Rattle.registry.specs.Answers.{reply_of}
 use Rattle.answers.specs.Texts.{number_word, reply_texts}

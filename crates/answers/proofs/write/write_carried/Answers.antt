@@ -1,4 +1,3 @@
-use borrow.Author.Rules.{rules}
 use Rattle.text.proofs.Behind.{none}
 use Rattle.answers.proofs.write.write_carried.Goals as goal
 

@@ -1,4 +1,3 @@
-use borrow.Author.Rules.{rules}
 use mathlib.Core.List.{[], ◌∷◌}
 use Rattle.answers.specs.Texts.{float, float_word}
 use Rattle.text.proofs.Behind.{one, behind}

@@ -1,4 +1,3 @@
-use borrow.Author.Rules.{rules}
 use mathlib.Core.List.{[], ◌∷◌}
 use Rattle.text.specs.Writing.{number_text}
 use Rattle.text.proofs.Behind.{one, behind}

@@ -1,4 +1,3 @@
-use borrow.Author.Rules.{rules}
 use mathlib.Core.List.{[], ◌∷◌, ◌++◌}
 use Rattle.registry.specs.Answers.{carried_by}
 use Rattle.answers.specs.Texts.{number_word, carried_texts}

@@ -1,4 +1,3 @@
-use borrow.Author.Rules.{rules}
 use Rattle.text.proofs.Behind.{one}
 use Rattle.answers.proofs.write.write_reply.Goals as goal
 

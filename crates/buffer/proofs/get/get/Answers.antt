@@ -1,4 +1,3 @@
-use borrow.Author.Rules.{rules}
 use Rattle.buffer.specs.Samples.{query}
 use Rattle.buffer.proofs.get.get.Goals as goal
 

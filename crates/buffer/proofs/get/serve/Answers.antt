@@ -7,7 +7,6 @@ use Rattle.buffer.specs.declared.kind.Kind.TheVariants.{Dynamic}
 use Rattle.buffer.proofs.ServedLaws.{served_empty}
 use Rattle.buffer.proofs.Places.{row_held, place_le}
 use Rattle.buffer.proofs.Serving.{first_served, exact, too_early, too_late_lem, amid, never_refused}
-use borrow.Author.Rules.{rules}
 use Rattle.buffer.proofs.get.serve.Goals as goal
 
 pub returns-then-count-eq0 : goal.returns-then-count-eq0

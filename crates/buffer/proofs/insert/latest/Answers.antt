@@ -2,7 +2,6 @@ use Prim.Native.Nat.{◌-◌}
 use mathlib.Core.Path.{◌≡◌}
 use native.Mathlib.Omega.{arith}
 use Rattle.buffer.proofs.Places.{newest_at}
-use borrow.Author.Rules.{rules}
 use Rattle.buffer.proofs.insert.latest.Goals as goal
 
 pub returns-then-count-eq0 : goal.returns-then-count-eq0

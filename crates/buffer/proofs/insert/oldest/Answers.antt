@@ -2,7 +2,6 @@ use Prim.Native.Nat.{◌-◌}
 use mathlib.Core.Path.{◌≡◌, sym}
 use native.Mathlib.Omega.{arith}
 use lib.Dec.{leb-zero}
-use borrow.Author.Rules.{rules}
 use Rattle.buffer.proofs.insert.oldest.Goals as goal
 
 pub returns-in_default : goal.returns-in_default

@@ -1,7 +1,6 @@
 use Rattle.buffer.specs.Row.{FloatsFit}
 use Prim.Native.Nat.{◌≤◌, ◌<◌}
 use mathlib.Core.Path.{◌≡◌}
-use mathlib.Core.Logic.{⊎_elim}
 use native.Mathlib.Omega.{arith}
 use lib.ListN.{get_or}
 use Rattle.buffer.proofs.Places.{row_held, place_le}

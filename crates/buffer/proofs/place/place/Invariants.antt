@@ -1,10 +1,5 @@
-use mathlib.Core.Path.{◌≡◌}
 use Prim.Native.Nat.{ℕ, ◌-◌, ◌≤◌, ◌<◌}
-use native.Mathlib.Nat.{lt_of_le_of_lt, le_trans}
-use native.Mathlib.Omega.{arith}
 use lib.ListN.{get_or}
-use borrow.Author.Count.{below_none}
-use Rattle.buffer.proofs.Places.{place_is, held_lt, held_le}
 use Rattle.buffer.proofs.place.place.Given as goal
 
 -- every instant before low is below t, and none from high on

@@ -6,7 +6,6 @@ use lib.Ieee.{Float}
 use Rattle.buffer.specs.Words.{replaced}
 use Rattle.buffer.specs.Row.{floats}
 use Rattle.buffer.proofs.Moves.{up_put}
-use borrow.Author.Rules.{rules}
 use Rattle.buffer.proofs.pose.insert_pose.Goals as goal
 
 pub returns : goal.returns

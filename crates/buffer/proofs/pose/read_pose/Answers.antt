@@ -2,7 +2,6 @@ use Prim.Native.Nat.{◌+◌, ◌-◌, ◌*◌}
 use mathlib.Core.Path.{◌≡◌}
 use native.Mathlib.Omega.{arith}
 use Rattle.buffer.proofs.RowWords.{pose_read_lem}
-use borrow.Author.Rules.{rules}
 use Rattle.buffer.proofs.pose.read_pose.Goals as goal
 
 pub returns : goal.returns

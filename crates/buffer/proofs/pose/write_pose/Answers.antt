@@ -3,7 +3,6 @@ use mathlib.Core.Path.{◌≡◌, refl}
 use native.Mathlib.Omega.{arith}
 use Rattle.buffer.specs.Row.{floats}
 use Rattle.buffer.proofs.Moves.{put_replaced}
-use borrow.Author.Rules.{rules}
 use Rattle.buffer.proofs.pose.write_pose.Goals as goal
 
 pub returns : goal.returns

@@ -5,7 +5,6 @@ use mathlib.Core.Option.{Option}
 use mathlib.Core.List.{List}
 use native.Mathlib.Omega.{arith}
 use lib.Ieee.{Float}
-use borrow.Author.Rules.{rules}
 use Rattle.buffer.specs.Answers.{age_of}
 use Rattle.buffer.specs.Map.{all}
 use Rattle.buffer.specs.Samples.{newest, survives}

@@ -3,8 +3,6 @@ use mathlib.Core.Path.{◌≡◌, sym, ◌∙◌}
 use mathlib.Core.Bool.{true, false}
 use native.Mathlib.Omega.{arith}
 use lib.ListN.{take}
-use borrow.Author.Rules.{rules}
-use borrow.Author.Tests.{not-true, not-false}
 use Rattle.buffer.specs.Answers.{age_of}
 use Rattle.buffer.specs.Map.{ascending}
 use Rattle.buffer.proofs.RowSoundLoops.{static_count, static_instant, not_rising, when_rising}

@@ -1,10 +1,7 @@
-use Prim.Native.Nat.{◌-◌, ◌≤◌}
-use mathlib.Core.Path.{◌≡◌, refl, sym, ap, ◌∙◌}
-use mathlib.Core.Bool.{◌&&◌}
+use mathlib.Core.Path.{refl, sym, ap, ◌∙◌}
 use native.Mathlib.Omega.{arith}
-use borrow.Author.Rules.{rules}
 use Rattle.geometry.specs.Transform.{is_valid}
-use Rattle.buffer.proofs.RowSoundLoops.{poses_from, poses_more, poses_done}
+use Rattle.buffer.proofs.RowSoundLoops.{poses_more, poses_done}
 use Rattle.buffer.proofs.sound.poses_chunk.Goals as goal
 
 pub loop-i-init : goal.loop-i-init

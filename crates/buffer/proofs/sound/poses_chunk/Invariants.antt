@@ -1,10 +1,7 @@
 use Prim.Native.Nat.{◌-◌, ◌≤◌}
-use mathlib.Core.Path.{◌≡◌, refl, sym, ap, ◌∙◌}
+use mathlib.Core.Path.{◌≡◌}
 use mathlib.Core.Bool.{◌&&◌}
-use native.Mathlib.Omega.{arith}
-use borrow.Author.Rules.{rules}
-use Rattle.geometry.specs.Transform.{is_valid}
-use Rattle.buffer.proofs.RowSoundLoops.{poses_from, poses_more, poses_done}
+use Rattle.buffer.proofs.RowSoundLoops.{poses_from}
 use Rattle.buffer.proofs.sound.poses_chunk.Given as goal
 
 -- `buffer::sound::poses_chunk` meets its contract. The loop's invariant: the flag and the test of what is left are the test of the whole.

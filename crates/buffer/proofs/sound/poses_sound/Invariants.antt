@@ -1,10 +1,6 @@
-use Prim.Native.Nat.{◌+◌, ◌-◌, ◌≤◌}
-use mathlib.Core.Path.{◌≡◌, refl, sym, ◌∙◌}
-use native.Mathlib.Omega.{arith}
-use borrow.Author.Rules.{rules}
-use borrow.Author.Tests.{not-true, not-false}
-use Rattle.buffer.proofs.Chunks.{chunk_passes, chunk_fails}
-use Rattle.buffer.proofs.RowSoundLoops.{poses_from, poses_whole, poses_split}
+use Prim.Native.Nat.{◌-◌, ◌≤◌}
+use mathlib.Core.Path.{◌≡◌}
+use Rattle.buffer.proofs.RowSoundLoops.{poses_from}
 use Rattle.buffer.proofs.sound.poses_sound.Given as goal
 
 -- `buffer::sound::poses_sound` meets its contract. The loop's invariant: the test of the whole is the test of what is left.

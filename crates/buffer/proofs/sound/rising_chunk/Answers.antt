@@ -1,9 +1,5 @@
-use Prim.Native.Nat.{◌-◌, ◌≤◌}
-use mathlib.Core.Path.{◌≡◌, refl, sym, ◌∙◌}
-use mathlib.Core.Bool.{◌&&◌}
+use mathlib.Core.Path.{refl, sym, ◌∙◌}
 use native.Mathlib.Omega.{arith}
-use lib.ListN.{length, drop}
-use Rattle.buffer.specs.Map.{ascending}
 use Rattle.buffer.proofs.Ascending.{rising_more, rising_done}
 use Rattle.buffer.proofs.sound.rising_chunk.Goals as goal
 

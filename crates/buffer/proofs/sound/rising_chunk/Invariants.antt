@@ -1,10 +1,8 @@
 use Prim.Native.Nat.{◌-◌, ◌≤◌}
-use mathlib.Core.Path.{◌≡◌, refl, sym, ◌∙◌}
+use mathlib.Core.Path.{◌≡◌}
 use mathlib.Core.Bool.{◌&&◌}
-use native.Mathlib.Omega.{arith}
 use lib.ListN.{length, drop}
 use Rattle.buffer.specs.Map.{ascending}
-use Rattle.buffer.proofs.Ascending.{rising_more, rising_done}
 use Rattle.buffer.proofs.sound.rising_chunk.Given as goal
 
 -- `buffer::sound::rising_chunk` meets its contract. The loop's invariant: the flag and the test from the last number passed on are the test of the whole.

@@ -1,8 +1,6 @@
 use Prim.Native.Nat.{◌-◌, ◌*◌}
 use native.Mathlib.Omega.{arith}
 use lib.ListN.{length}
-use borrow.Author.Rules.{rules}
-use borrow.Author.Tests.{not-true, not-false}
 use Rattle.buffer.specs.Answers.{age_of}
 use Rattle.buffer.proofs.RowSoundLoops.{too_many, instants_fail, poses_fail, words_fail, floats_decide}
 use Rattle.buffer.proofs.sound.row_sound.Goals as goal

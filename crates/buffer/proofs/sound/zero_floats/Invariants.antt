@@ -1,12 +1,8 @@
-use Prim.Native.Nat.{◌+◌, ◌-◌, ◌≤◌}
-use mathlib.Core.Path.{◌≡◌, refl, sym, ap, ◌∙◌}
-use native.Mathlib.Omega.{arith}
+use Prim.Native.Nat.{◌-◌, ◌≤◌}
+use mathlib.Core.Path.{◌≡◌}
 use lib.ListN.{length, drop}
-use borrow.Author.Rules.{rules}
-use borrow.Author.Tests.{not-true, not-false}
 use Rattle.buffer.specs.Map.{all}
 use Rattle.buffer.specs.Row.{is_zero}
-use Rattle.buffer.proofs.Chunks.{all_split, chunk_passes, chunk_fails, take_rest}
 use Rattle.buffer.proofs.sound.zero_floats.Given as goal
 
 -- `buffer::sound::zero_floats` meets its contract. The loop's invariant: the test of the whole is the test of what is left.

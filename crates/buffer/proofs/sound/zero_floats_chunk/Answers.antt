@@ -1,11 +1,6 @@
-use Prim.Native.Nat.{◌-◌}
-use mathlib.Core.Path.{◌≡◌, refl, sym, ◌∙◌}
-use mathlib.Core.Bool.{◌&&◌}
+use mathlib.Core.Path.{sym, ◌∙◌}
 use native.Mathlib.Omega.{arith}
 use lib.Ieee.{nan}
-use lib.ListN.{length, drop}
-use borrow.Author.Rules.{rules}
-use Rattle.buffer.specs.Map.{all}
 use Rattle.buffer.specs.Row.{is_zero}
 use Rattle.buffer.proofs.Chunks.{all_more, all_done}
 use Rattle.buffer.proofs.sound.zero_floats_chunk.Goals as goal

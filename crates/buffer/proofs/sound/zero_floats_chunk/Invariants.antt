@@ -1,13 +1,9 @@
 use Prim.Native.Nat.{◌-◌}
-use mathlib.Core.Path.{◌≡◌, refl, sym, ◌∙◌}
+use mathlib.Core.Path.{◌≡◌}
 use mathlib.Core.Bool.{◌&&◌}
-use native.Mathlib.Omega.{arith}
-use lib.Ieee.{nan}
 use lib.ListN.{length, drop}
-use borrow.Author.Rules.{rules}
 use Rattle.buffer.specs.Map.{all}
 use Rattle.buffer.specs.Row.{is_zero}
-use Rattle.buffer.proofs.Chunks.{all_more, all_done}
 use Rattle.buffer.proofs.sound.zero_floats_chunk.Given as goal
 
 -- `buffer::sound::zero_floats_chunk` meets its contract. The loop's invariant: the flag and the test of what is left are the test of the whole.

@@ -1,10 +1,6 @@
-use Prim.Native.Nat.{◌-◌}
-use mathlib.Core.Path.{◌≡◌, refl, sym, ◌∙◌}
-use mathlib.Core.Bool.{◌&&◌}
+use mathlib.Core.Path.{refl, sym, ◌∙◌}
 use native.Mathlib.Omega.{arith}
 use lib.Dec.{eqb}
-use lib.ListN.{length, drop}
-use Rattle.buffer.specs.Map.{all}
 use Rattle.buffer.proofs.Chunks.{all_more, all_done}
 use Rattle.buffer.proofs.sound.zero_words_chunk.Goals as goal
 

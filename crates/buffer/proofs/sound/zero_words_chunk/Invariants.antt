@@ -1,11 +1,9 @@
 use Prim.Native.Nat.{◌-◌}
-use mathlib.Core.Path.{◌≡◌, refl, sym, ◌∙◌}
+use mathlib.Core.Path.{◌≡◌}
 use mathlib.Core.Bool.{◌&&◌}
-use native.Mathlib.Omega.{arith}
 use lib.Dec.{eqb}
 use lib.ListN.{length, drop}
 use Rattle.buffer.specs.Map.{all}
-use Rattle.buffer.proofs.Chunks.{all_more, all_done}
 use Rattle.buffer.proofs.sound.zero_words_chunk.Given as goal
 
 -- `buffer::sound::zero_words_chunk` meets its contract. The loop's invariant: the flag and the test of what is left are the test of the whole.

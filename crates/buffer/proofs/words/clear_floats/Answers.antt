@@ -1,8 +1,6 @@
-use mathlib.Core.Path.{◌≡◌, refl, ◌∙◌}
-use mathlib.Core.List.{◌++◌}
-use Prim.Native.Nat.{◌-◌, ◌≤◌}
+use mathlib.Core.Path.{refl, ◌∙◌}
 use native.Mathlib.Omega.{arith}
-use lib.ListN.{length, drop, replicate, length-set}
+use lib.ListN.{length-set}
 use Rattle.time.specs.Float.{zero64}
 use Rattle.buffer.proofs.Moves.{fill_more, fill_all}
 use Rattle.buffer.proofs.words.clear_floats.Goals as goal

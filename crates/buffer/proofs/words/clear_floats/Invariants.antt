@@ -1,10 +1,8 @@
-use mathlib.Core.Path.{◌≡◌, refl, ◌∙◌}
+use mathlib.Core.Path.{◌≡◌}
 use mathlib.Core.List.{◌++◌}
 use Prim.Native.Nat.{◌-◌, ◌≤◌}
-use native.Mathlib.Omega.{arith}
-use lib.ListN.{length, drop, replicate, length-set}
+use lib.ListN.{length, drop, replicate}
 use Rattle.time.specs.Float.{zero64}
-use Rattle.buffer.proofs.Moves.{fill_more, fill_all}
 use Rattle.buffer.proofs.words.clear_floats.Given as goal
 
 -- the first i elements are cleared, the rest as they were

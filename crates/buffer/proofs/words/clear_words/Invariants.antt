@@ -1,9 +1,7 @@
-use mathlib.Core.Path.{◌≡◌, refl, ◌∙◌}
+use mathlib.Core.Path.{◌≡◌}
 use mathlib.Core.List.{◌++◌}
 use Prim.Native.Nat.{◌-◌, ◌≤◌}
-use native.Mathlib.Omega.{arith}
-use lib.ListN.{length, drop, replicate, length-set}
-use Rattle.buffer.proofs.Moves.{fill_more, fill_all}
+use lib.ListN.{length, drop, replicate}
 use Rattle.buffer.proofs.words.clear_words.Given as goal
 
 -- the first i elements are cleared, the rest as they were

@@ -1,5 +1,4 @@
 use native.Mathlib.Omega.{arith}
-use borrow.Author.Rules.{rules}
 use Rattle.buffer.proofs.Moves.{up_set}
 use Rattle.buffer.proofs.words.insert_word.Goals as goal
 

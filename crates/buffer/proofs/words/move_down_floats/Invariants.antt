@@ -1,10 +1,7 @@
-use mathlib.Core.Path.{◌≡◌, refl}
+use mathlib.Core.Path.{◌≡◌}
 use Prim.Native.Nat.{◌-◌, ◌≤◌}
-use native.Mathlib.Omega.{arith}
-use lib.ListN.{length, length-set}
-use lib.Ieee.{nan}
+use lib.ListN.{length}
 use Rattle.buffer.specs.Words.{moved_down}
-use Rattle.buffer.proofs.Moves.{down_none, down_more}
 use Rattle.buffer.proofs.words.move_down_floats.Given as goal
 
 -- the elements below i are moved

@@ -1,8 +1,6 @@
 use mathlib.Core.Path.{◌≡◌, refl}
-use Prim.Native.Nat.{◌≤◌}
 use native.Mathlib.Omega.{arith}
-use lib.ListN.{length, length-set}
-use Rattle.buffer.specs.Words.{moved_up}
+use lib.ListN.{length-set}
 use Rattle.buffer.proofs.Moves.{up_none, up_more}
 use Rattle.buffer.proofs.words.move_up_words.Goals as goal
 

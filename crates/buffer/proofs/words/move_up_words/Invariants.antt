@@ -1,9 +1,7 @@
-use mathlib.Core.Path.{◌≡◌, refl}
+use mathlib.Core.Path.{◌≡◌}
 use Prim.Native.Nat.{◌≤◌}
-use native.Mathlib.Omega.{arith}
-use lib.ListN.{length, length-set}
+use lib.ListN.{length}
 use Rattle.buffer.specs.Words.{moved_up}
-use Rattle.buffer.proofs.Moves.{up_none, up_more}
 use Rattle.buffer.proofs.words.move_up_words.Given as goal
 
 -- the elements from i on are moved

@@ -1,4 +1,3 @@
-use borrow.Author.Rules.{rules}
 use Rattle.time.specs.Float.{zero64}
 use Rattle.buffer.proofs.Moves.{down_clear}
 use Rattle.buffer.proofs.words.remove_floats.Goals as goal

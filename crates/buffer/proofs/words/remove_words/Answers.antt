@@ -1,4 +1,3 @@
-use borrow.Author.Rules.{rules}
 use Rattle.buffer.proofs.Moves.{down_clear}
 use Rattle.buffer.proofs.words.remove_words.Goals as goal
 

@@ -1,5 +1,4 @@
 use mathlib.Core.Path.{sym, ap, ◌∙◌}
-use borrow.Author.Rules.{rules}
 use Rattle.map_file.specs.Answers.{count_of}
 use Rattle.map_file.proofs.ByteLists.{bytes_known}
 use Rattle.map_file.proofs.NamesFormed.{formed_of, frame_unformed}

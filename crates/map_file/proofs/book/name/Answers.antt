@@ -1,11 +1,8 @@
 use mathlib.Core.Path.{◌≡◌, refl, sym, ap, ◌∙◌}
-use mathlib.Core.List.{List, [], ◌∷◌}
+use mathlib.Core.List.{List, []}
 use Prim.Native.Nat.{ℕ, ◌+◌, ◌-◌}
 use native.Mathlib.Omega.{arith}
 use lib.ListN.{take, drop}
-use types.Run.{OneOf, miss}
-use denote.Enum.Declared.{tag_of}
-use borrow.Author.Rules.{rules}
 use Rattle.time.proofs.Replies.{refusal_answer, answer_in}
 use Rattle.buffer.proofs.Cases.{none_some}
 use Rattle.map_file.specs.Book.{name_in, part_in}
@@ -15,7 +12,6 @@ use Rattle.map_file.specs.declared.book.Named.{Named}
 use Rattle.map_file.specs.declared.book.Named.TheVariants as name
 use Rattle.map_file.proofs.ByteLists.{bytes_known}
 use Rattle.map_file.proofs.PartIsName.{part_is_name, no_name}
-use Rattle.map_file.specs.contracts.book.Named.{the_type}
 use Rattle.map_file.proofs.book.name.Goals as goal
 
 -- `map_file::book::name` meets its contract: the bytes of the part that a number is answered with, or none.

@@ -1,5 +1,4 @@
-use mathlib.Core.Path.{◌≡◌, ap}
-use mathlib.Core.Bool.{Bool, true, false}
+use mathlib.Core.Path.{ap}
 use native.Mathlib.Omega.{arith}
 use Rattle.map_file.specs.walks.Names.{next_name}
 use Rattle.map_file.proofs.NamesWalk.{next_is}

@@ -1,18 +1,10 @@
-use mathlib.Core.Path.{◌≡◌, refl, sym, ap, subst, ◌∙◌}
-use mathlib.Core.Bool.{false, not}
-use mathlib.Core.Option.{some}
-use Prim.Native.Nat.{ℕ, ◌≤◌, ◌+◌, ◌-◌}
-use native.Mathlib.Omega.{arith}
-use borrow.Author.Rules.{rules}
-use lib.ListN.{length, take, drop}
-use Rattle.time.specs.Reply.{answer}
-use Rattle.text.specs.Reading.{same}
-use Rattle.map_file.specs.Reads.{name_at}
+use mathlib.Core.Path.{◌≡◌}
+use mathlib.Core.Bool.{false}
+use Prim.Native.Nat.{◌≤◌, ◌-◌}
+use lib.ListN.{take}
 use Rattle.map_file.specs.Book.{among}
 use Rattle.map_file.specs.walks.Names.{names_in, NameStands}
-use Rattle.map_file.proofs.BookTake.{number_count, among_more, counted}
-use Rattle.map_file.proofs.NamesWalk.{first_name, NameHere, here_of}
-use Rattle.map_file.proofs.NamesBook.{count_small, no_frame, frame_here}
+use Rattle.map_file.proofs.BookTake.{number_count}
 use Rattle.map_file.proofs.book.number_of.Given as goal
 
 -- `map_file::book::number_of` meets its contract. The loop's invariant: the i-th name stands at the place, none of the first i is the name, and `before` of them have a number.

@@ -1,9 +1,8 @@
 use mathlib.Core.Path.{◌≡◌, refl, sym, ap, subst, ◌∙◌}
 use mathlib.Core.Bool.{not}
 use mathlib.Core.Option.{some}
-use Prim.Native.Nat.{ℕ, suc, ◌≤◌, ◌+◌, ◌-◌}
+use Prim.Native.Nat.{ℕ, suc, ◌≤◌, ◌+◌}
 use native.Mathlib.Omega.{arith}
-use borrow.Author.Rules.{rules}
 use lib.ListN.{length, drop}
 use Rattle.time.specs.Reply.{answer}
 use Rattle.map_file.specs.Form.{Name}

@@ -1,5 +1,4 @@
 use native.Mathlib.Omega.{arith}
-use borrow.Author.Rules.{rules}
 use mir.Facts.{Fits-8_64}
 use Rattle.map_file.proofs.Ends.{name_past, name_empty, name_long, name_cut, name_ends}
 use Rattle.map_file.proofs.form.name_end.Goals as goal

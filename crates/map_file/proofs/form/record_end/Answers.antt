@@ -1,6 +1,5 @@
 use mathlib.Core.Path.{sym, ap, ◌∙◌}
 use lib.ListN.{drop}
-use borrow.Author.Rules.{rules}
 use Rattle.map_file.specs.Form.{name_from}
 use Rattle.map_file.specs.walks.Ends.{end_read}
 use Rattle.map_file.proofs.Leaves.{Read, name_read}

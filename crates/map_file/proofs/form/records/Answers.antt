@@ -3,13 +3,11 @@ use mathlib.Core.Path.{◌≡◌, sym, ap, ◌∙◌}
 use mathlib.Core.Bool.{true}
 use mathlib.Core.Option.{some}
 use native.Mathlib.Omega.{arith}
-use borrow.Author.Tests.{not-true, not-false}
 use mir.Facts.{Fits-8_32}
 use lib.ListN.{length, drop}
 use Rattle.map_file.specs.Form.{times, record_from}
 use Rattle.map_file.specs.walks.Ends.{end_of, end_read, marked}
 use Rattle.map_file.proofs.Heads.{counted, head_cut, head_unmarked, count_none, count_cut, count_over, count_is}
-use borrow.Author.Rules.{rules}
 use Rattle.map_file.proofs.form.records.Goals as goal
 
 pub returns-then-map-lt-HEAD_BYTES : goal.returns-then-map-lt-HEAD_BYTES

@@ -1,13 +1,8 @@
-use Prim.Native.Nat.{ℕ, suc, ◌+◌, ◌-◌, ◌≤◌}
-use mathlib.Core.Path.{◌≡◌, sym, ap, ◌∙◌}
-use mathlib.Core.Option.{some}
-use native.Mathlib.Omega.{arith}
-use borrow.Author.Rules.{rules}
+use Prim.Native.Nat.{◌-◌, ◌≤◌}
+use mathlib.Core.Path.{◌≡◌}
 use lib.ListN.{length, drop}
 use Rattle.map_file.specs.Form.{times, record_from}
-use Rattle.map_file.specs.walks.Ends.{end_of, end_read}
-use Rattle.map_file.proofs.Leaves.{record_read, end_none, end_back}
-use Rattle.map_file.proofs.Ends.{times_cut, times_ends}
+use Rattle.map_file.specs.walks.Ends.{end_of}
 use Rattle.map_file.proofs.form.records_end.Given as goal
 
 -- `map_file::form::records_end` meets its contract. The invariant of its loop: the records that are left end where all of them do.

@@ -4,7 +4,6 @@ use native.Mathlib.Omega.{arith}
 use lib.ListN.{take, drop}
 use lib.Ieee.{binary64, of_bits}
 use Rattle.map_file.specs.Form.{number}
-use borrow.Author.Rules.{rules}
 use Rattle.map_file.proofs.record.float_at.Goals as goal
 
 pub returns : goal.returns

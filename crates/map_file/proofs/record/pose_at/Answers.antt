@@ -1,4 +1,3 @@
-use borrow.Author.Rules.{rules}
 use Rattle.map_file.proofs.Poses.{pose_read_lem}
 use Rattle.map_file.proofs.record.pose_at.Goals as goal
 

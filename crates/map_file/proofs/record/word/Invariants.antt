@@ -1,11 +1,7 @@
-use Prim.Native.Nat.{ℕ, suc, ◌+◌, ◌-◌, ◌*◌, ◌^◌, ◌≤◌, ◌<◌}
-use mathlib.Core.Path.{◌≡◌, sym, ap, ◌∙◌}
-use native.Mathlib.Nat.{pow-le-pow_right}
-use native.Mathlib.Omega.{arith}
-use borrow.Author.Rules.{rules}
-use lib.ListN.{drop, get_or, drop_of_length-le}
+use Prim.Native.Nat.{◌-◌, ◌^◌, ◌≤◌, ◌<◌}
+use mathlib.Core.Path.{◌≡◌}
+use lib.ListN.{drop}
 use Rattle.map_file.specs.Form.{number}
-use Rattle.map_file.proofs.Numbers.{number_more, below_more}
 use Rattle.map_file.proofs.record.word.Given as goal
 
 -- `map_file::record::word` meets its contract. The invariant of its loop: the value is the number of the bytes from i on.

@@ -1,7 +1,6 @@
 use mathlib.Core.Path.{◌≡◌, subst, ap}
 use mathlib.Core.Bool.{not}
 use mathlib.Core.List.{List}
-use borrow.Author.Rules.{rules}
 use Rattle.time.specs.Reply.{Reply, answer, nothing, refuse}
 use Rattle.registry.specs.declared.check.Checked.{Checked}
 use Rattle.registry.specs.declared.check.Checked.TheVariants.{Sizes, UnsoundStore}

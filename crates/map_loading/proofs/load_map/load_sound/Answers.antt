@@ -1,7 +1,5 @@
 use mathlib.Core.Path.{◌≡◌, sym, ap, ◌∙◌}
 use mathlib.Core.Bool.{true}
-use borrow.Author.Rules.{rules}
-use borrow.Author.Tests.{not-true, not-false}
 use Rattle.registry.specs.Tree.{holds_no_frame}
 use Rattle.registry.specs.Store.{Store, tree_of}
 use Rattle.registry.specs.Calls.{store_of}

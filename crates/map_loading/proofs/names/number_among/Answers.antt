@@ -1,14 +1,9 @@
-use Prim.Native.Nat.{◌+◌, ◌-◌, ◌≤◌}
 use mathlib.Core.Path.{◌≡◌, sym, ap, ◌∙◌}
-use mathlib.Core.List.{map}
 use native.Mathlib.Omega.{arith}
-use borrow.Author.Rules.{rules}
-use lib.ListN.{length, get_or, take, drop}
+use lib.ListN.{length, get_or, take}
 use lib.Seq.{length-take-le, get_or-take}
 use Rattle.text.specs.Reading.{same}
 use Rattle.map_file.specs.Reads.{name_at}
-use Rattle.map_file.specs.Book.{position}
-use Rattle.map_loading.specs.tables.Names.{names_at}
 use Rattle.map_loading.proofs.Table.{walk_found, walk_on, walk_ends}
 use Rattle.map_loading.proofs.names.number_among.Goals as goal
 

@@ -1,15 +1,10 @@
 use Prim.Native.Nat.{◌+◌, ◌-◌, ◌≤◌}
-use mathlib.Core.Path.{◌≡◌, sym, ap, ◌∙◌}
+use mathlib.Core.Path.{◌≡◌}
 use mathlib.Core.List.{map}
-use native.Mathlib.Omega.{arith}
-use borrow.Author.Rules.{rules}
-use lib.ListN.{length, get_or, take, drop}
-use lib.Seq.{length-take-le, get_or-take}
-use Rattle.text.specs.Reading.{same}
+use lib.ListN.{take, drop}
 use Rattle.map_file.specs.Reads.{name_at}
 use Rattle.map_file.specs.Book.{position}
 use Rattle.map_loading.specs.tables.Names.{names_at}
-use Rattle.map_loading.proofs.Table.{walk_found, walk_on, walk_ends}
 use Rattle.map_loading.proofs.names.number_among.Given as goal
 
 -- `map_loading::names::number_among` meets its contract. The invariant of its loop: the name's number is j more than its number among the names from j on.

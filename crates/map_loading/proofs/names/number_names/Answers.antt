@@ -1,7 +1,6 @@
 use mathlib.Core.Path.{◌≡◌, ap, ◌∙◌}
 use mathlib.Core.List.{List}
 use native.Mathlib.Omega.{arith}
-use borrow.Author.Rules.{rules}
 use Rattle.map_file.specs.Form.{Name}
 use Rattle.map_file.specs.Reads.{name_at}
 use Rattle.map_file.specs.Book.{numbered, position}

@@ -1,7 +1,6 @@
 use Prim.Native.Nat.{ℕ}
 use mathlib.Core.Path.{◌≡◌, refl, sym, ap, ◌∙◌, subst}
 use native.Mathlib.Omega.{arith}
-use borrow.Author.Rules.{rules}
 use Rattle.time.specs.declared.stamp.Stamp.TheVariants.{Static}
 use Rattle.registry.specs.Tree.{Addition, addition, add}
 use Rattle.registry.specs.Store.{Store, limits_of, tree_of}

@@ -3,17 +3,14 @@ use mathlib.Core.Path.{◌≡◌, refl, sym, ap, ◌∙◌, subst}
 use mathlib.Core.List.{[]}
 use mathlib.Core.Option.{some}
 use native.Mathlib.Omega.{arith}
-use borrow.Author.Rules.{rules}
-use lib.ListN.{length}
-use Rattle.time.specs.Reply.{Reply, answer}
+use Rattle.time.specs.Reply.{answer}
 use Rattle.registry.specs.Store.{Store, limits_of, stored}
 use Rattle.registry.specs.Sound.{SoundStore}
-use Rattle.registry.specs.Answers.{Value, done, reply_of}
-use Rattle.registry.specs.Calls.{Outcome, store_of}
+use Rattle.registry.specs.Answers.{done, reply_of}
+use Rattle.registry.specs.Calls.{store_of}
 use Rattle.registry.specs.declared.answer.Answer.TheVariants as answers
 use Rattle.registry.proofs.ReplyInjective.{reply_injective}
 use Rattle.map_file.proofs.ByteLists.{bytes_known}
-use Rattle.map_loading.specs.Loading.{load_of}
 use Rattle.map_loading.proofs.Adding.{Adding, adding_first, adding_room, adding_within, adding_cleared, adding_ends, adding_refused, adding_next}
 use Rattle.map_loading.proofs.records.add_records.Goals as goal
 

@@ -1,7 +1,6 @@
 use Prim.Native.Nat.{ℕ, ◌+◌}
 use mathlib.Core.Path.{◌≡◌, ap, ◌∙◌}
 use native.Mathlib.Omega.{arith}
-use borrow.Author.Rules.{rules}
 use Rattle.map_file.specs.Reads.{behind_name}
 use Rattle.map_loading.proofs.records.behind_record.Goals as goal
 

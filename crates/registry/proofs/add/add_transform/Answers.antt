@@ -1,5 +1,4 @@
 use mathlib.Core.Path.{◌≡◌, subst, ◌∙◌}
-use borrow.Author.Rules.{rules}
 use Rattle.time.specs.Reply.{Reply}
 use Rattle.registry.specs.declared.check.Checked.{Checked}
 use Rattle.registry.specs.declared.check.Checked.TheVariants.{Sizes, UnsoundStore, Sound}

@@ -1,7 +1,5 @@
 use mathlib.Core.Path.{◌≡◌, sym, ◌∙◌}
 use mathlib.Core.Bool.{true, false}
-use borrow.Author.Rules.{rules}
-use borrow.Author.Tests.{not-true, not-false}
 use Rattle.registry.specs.Store.{Store, sized}
 use Rattle.registry.specs.Sound.{rows_sound}
 use Rattle.registry.specs.Calls.{store_of}

@@ -1,5 +1,4 @@
 use mathlib.Core.Path.{subst}
-use borrow.Author.Rules.{rules}
 use Rattle.registry.specs.Store.{Store}
 use Rattle.registry.specs.Calls.{store_of}
 use Rattle.registry.specs.layout.Rows.{Finds}

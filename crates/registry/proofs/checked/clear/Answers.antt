@@ -1,6 +1,5 @@
 use mathlib.Core.Path.{◌≡◌, ap, ◌∙◌}
 use mathlib.Core.List.{[]}
-use borrow.Author.Rules.{rules}
 use Rattle.buffer.specs.Answers.{age_of}
 use Rattle.registry.specs.Tree.{Limits}
 use Rattle.registry.specs.Store.{Store, limits_of, stored, sizes_fit}

@@ -1,6 +1,5 @@
 use mathlib.Core.Path.{◌∙◌}
 use mathlib.Core.List.{◌++◌}
-use borrow.Author.Rules.{rules}
 use Rattle.time.specs.Reply.{refusal, nothing, ◌then◌}
 use Rattle.registry.specs.Store.{Store, tree_of}
 use Rattle.registry.specs.Answers.{static}

@@ -1,6 +1,5 @@
 use mathlib.Core.Path.{ap, ◌∙◌}
 use native.Mathlib.Omega.{arith}
-use borrow.Author.Rules.{rules}
 use Rattle.time.specs.Reply.{answer}
 use Rattle.buffer.specs.Answers.{age_of}
 use Rattle.registry.specs.Tree.{Limits}

@@ -1,4 +1,4 @@
-use mathlib.Core.Path.{◌≡◌, ap, subst, ◌∙◌}
+use mathlib.Core.Path.{ap, subst, ◌∙◌}
 use borrow.Author.Rules.{rules}
 use Rattle.time.specs.Reply.{answer}
 use Rattle.registry.specs.Store.{Store}

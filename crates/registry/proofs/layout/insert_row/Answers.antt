@@ -1,6 +1,5 @@
 use native.Mathlib.Omega.{arith}
 use lib.ListN.{length-set}
-use borrow.Author.Rules.{rules}
 use Rattle.registry.proofs.layout.RowInserting.{row_inserted_lem}
 use Rattle.registry.proofs.layout.insert_row.Goals as goal
 

@@ -1,4 +1,3 @@
-use borrow.Author.Rules.{rules}
 use Rattle.registry.proofs.layout.RowParts.{rest_is}
 use Rattle.registry.proofs.layout.instants_after.Goals as goal
 

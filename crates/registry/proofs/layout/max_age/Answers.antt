@@ -1,4 +1,3 @@
-use borrow.Author.Rules.{rules}
 use Rattle.registry.proofs.layout.HeadWords.{age_none, age_some}
 use Rattle.registry.proofs.layout.max_age.Goals as goal
 

@@ -1,6 +1,5 @@
 use mathlib.Core.Path.{ap}
 use native.Mathlib.Omega.{arith}
-use borrow.Author.Rules.{rules}
 use Rattle.buffer.specs.Answers.{age_of, inserted_reply}
 use Rattle.registry.specs.Store.{Store}
 use Rattle.registry.specs.Calls.{store_of}

@@ -1,5 +1,4 @@
 use mathlib.Core.Path.{refl}
-use borrow.Author.Rules.{rules}
 use Rattle.registry.proofs.layout.RowParts.{part_is}
 use Rattle.registry.proofs.layout.row_instants.Goals as goal
 

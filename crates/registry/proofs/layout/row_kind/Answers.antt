@@ -1,5 +1,4 @@
 use mathlib.Core.Path.{sym, ◌∙◌}
-use borrow.Author.Rules.{rules}
 use Rattle.registry.proofs.layout.HeadWords.{kind_static, kind_dynamic}
 use Rattle.registry.proofs.layout.row_kind.Goals as goal
 

@@ -1,4 +1,3 @@
-use borrow.Author.Rules.{rules}
 use Rattle.registry.proofs.layout.RowParts.{part_is}
 use Rattle.registry.proofs.layout.row_poses.Goals as goal
 

@@ -1,5 +1,4 @@
 use native.Mathlib.Omega.{arith}
-use borrow.Author.Rules.{rules}
 use Rattle.registry.specs.Store.{Store}
 use Rattle.registry.specs.Calls.{store_of}
 use Rattle.registry.proofs.layout.RowParts.{Cut, Ends, part_ends, row_lent}

@@ -1,5 +1,4 @@
 use mathlib.Core.Path.{ap, ◌∙◌}
-use borrow.Author.Rules.{rules}
 use Rattle.buffer.specs.Answers.{age_of}
 use Rattle.registry.specs.Store.{with_header}
 use Rattle.registry.proofs.layout.write_head.Goals as goal

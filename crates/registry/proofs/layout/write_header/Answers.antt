@@ -1,6 +1,5 @@
 use native.Mathlib.Omega.{arith}
 use lib.ListN.{length-set}
-use borrow.Author.Rules.{rules}
 use Rattle.buffer.specs.Answers.{age_of}
 use Rattle.registry.proofs.layout.HeaderWriting.{five_stores}
 use Rattle.registry.proofs.layout.write_header.Goals as goal

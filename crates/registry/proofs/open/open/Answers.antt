@@ -1,9 +1,5 @@
-use mathlib.Core.Path.{◌≡◌, sym, ap, ◌∙◌}
+use mathlib.Core.Path.{◌≡◌, sym, ◌∙◌}
 use mathlib.Core.Bool.{true}
-use borrow.Author.Rules.{rules}
-use borrow.Author.Tests.{not-true, not-false}
-use Rattle.buffer.specs.Answers.{age_of}
-use Rattle.registry.specs.Tree.{Limits}
 use Rattle.registry.specs.Store.{Store, sizes_fit}
 use Rattle.registry.specs.Calls.{store_of, open_of}
 use Rattle.registry.proofs.open.open.Goals as goal

@@ -1,6 +1,5 @@
 use Prim.Native.Nat.{◌-◌}
 use native.Mathlib.Omega.{arith}
-use borrow.Author.Rules.{rules}
 use Rattle.registry.proofs.layout.RowLaws.{used_header, used_row}
 use Rattle.registry.proofs.search.consecutive_row.Goals as goal
 

@@ -1,5 +1,4 @@
 use native.Mathlib.Omega.{arith}
-use borrow.Author.Rules.{rules}
 use Rattle.registry.proofs.layout.RowLaws.{used_header}
 use Rattle.registry.proofs.search.find_row.Goals as goal
 

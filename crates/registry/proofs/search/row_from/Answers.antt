@@ -2,7 +2,6 @@ use mathlib.Core.Path.{subst}
 use Prim.Native.Nat.{ℕ}
 use mathlib.Core.List.{List}
 use native.Mathlib.Omega.{arith}
-use borrow.Author.Rules.{rules}
 use Rattle.registry.specs.layout.Rows.{RisingRows, IsRow, AbsentAt, Finds, FirstRow}
 use Rattle.registry.proofs.search.row_from.Goals as goal
 

@@ -1,8 +1,5 @@
-use Prim.Native.Nat.{◌+◌, ◌-◌, ◌/◌}
-use mathlib.Core.Path.{sym, subst, ◌∙◌}
-use native.Mathlib.Omega.{arith}
-use Rattle.registry.proofs.layout.RowLaws.{used_header, used_row}
-use Rattle.registry.proofs.layout.RowSearch.{Between, between_all, between_up, between_down, between_none}
+use Prim.Native.Nat.{◌-◌}
+use Rattle.registry.proofs.layout.RowSearch.{Between}
 use Rattle.registry.proofs.search.search_row.Given as goal
 
 -- `registry::search::search_row` meets its contract. The invariant of its loop: the frame's row, if there is one, is from `low` up to `high`.

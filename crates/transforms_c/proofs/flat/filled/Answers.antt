@@ -1,4 +1,3 @@
-use borrow.Author.Rules.{rules}
 use Rattle.transforms_c.proofs.flat.filled.Goals as goal
 
 pub returns-in-Done : goal.returns-in-Done

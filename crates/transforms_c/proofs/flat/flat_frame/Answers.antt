@@ -1,10 +1,9 @@
-use mathlib.Core.Path.{◌≡◌, sym, ap, ◌∙◌}
+use mathlib.Core.Path.{sym, ap, ◌∙◌}
 use Prim.Native.Nat.{ℕ}
 use Rattle.map_file.specs.declared.book.Numbered.{Numbered}
 use Rattle.map_file.specs.Answers.{number_of}
 use Rattle.transforms_c.specs.declared.answer.FrameAnswer.{FrameAnswer}
 use Rattle.transforms_c.specs.Flat.{flat_frame}
-use borrow.Author.Rules.{rules}
 use Rattle.transforms_c.proofs.flat.flat_frame.Goals as goal
 
 -- `transforms_c::flat::flat_frame` meets its contract: case by case, with the number of 18 from where refusals are numbered.

@@ -1,6 +1,5 @@
 use mathlib.Core.Path.{◌≡◌, refl, sym, ap, ◌∙◌}
 use mathlib.Core.Option.{Option, none}
-use mathlib.Core.List.{[], ◌∷◌}
 use Prim.Native.Nat.{ℕ}
 use Rattle.map_loading.specs.Loading.{record_of, load_reply}
 use Rattle.map_loading.specs.declared.answer.Loaded.{Loaded}
@@ -8,7 +7,6 @@ use Rattle.map_loading.specs.declared.answer.Loaded.TheVariants as loaded
 use Rattle.registry.specs.declared.answer.Answer as registry
 use Rattle.transforms_c.specs.declared.answer.Answer.{Answer}
 use Rattle.transforms_c.specs.Flat.{flat, of_record, flat_load}
-use borrow.Author.Rules.{rules}
 use Rattle.transforms_c.proofs.flat.flat_load.Goals as goal
 
 -- `transforms_c::flat::flat_load` meets its contract: a record's refusal is marked, all else is told as it is.

@@ -1,10 +1,9 @@
-use mathlib.Core.Path.{◌≡◌, sym, ap, ◌∙◌}
+use mathlib.Core.Path.{sym, ap, ◌∙◌}
 use Prim.Native.Nat.{ℕ}
 use Rattle.map_file.specs.declared.book.Named.{Named}
 use Rattle.map_file.specs.Answers.{part_read}
 use Rattle.transforms_c.specs.declared.answer.NameAnswer.{NameAnswer}
 use Rattle.transforms_c.specs.Flat.{flat_name}
-use borrow.Author.Rules.{rules}
 use Rattle.transforms_c.proofs.flat.flat_name.Goals as goal
 
 -- `transforms_c::flat::flat_name` meets its contract: case by case, with the number of 18 from where refusals are numbered.

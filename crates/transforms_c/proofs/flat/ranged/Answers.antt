@@ -1,4 +1,3 @@
-use borrow.Author.Rules.{rules}
 use Rattle.transforms_c.proofs.flat.ranged.Goals as goal
 
 pub returns-in_default : goal.returns-in_default

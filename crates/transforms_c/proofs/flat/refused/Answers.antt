@@ -1,4 +1,3 @@
-use borrow.Author.Rules.{rules}
 use Rattle.transforms_c.proofs.flat.refused.Goals as goal
 
 pub returns-in-Nothing : goal.returns-in-Nothing

@@ -1,8 +1,6 @@
 use mathlib.Core.Path.{◌≡◌, sym, ◌∙◌}
 use mathlib.Core.Bool.{true}
 use native.Mathlib.Omega.{arith}
-use borrow.Author.Rules.{rules}
-use borrow.Author.Tests.{not-true, not-false}
 use Rattle.transforms_c.specs.Lengths.{rows_fit}
 use Rattle.transforms_c.proofs.Areas.{few_rows_lem}
 use Rattle.transforms_c.proofs.lengths.transforms_head_len.Goals as goal

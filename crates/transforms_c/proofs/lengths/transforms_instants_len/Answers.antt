@@ -1,7 +1,5 @@
 use mathlib.Core.Path.{◌≡◌, sym, ◌∙◌}
 use mathlib.Core.Bool.{true}
-use borrow.Author.Rules.{rules}
-use borrow.Author.Tests.{not-true, not-false}
 use Rattle.registry.proofs.layout.RowLaws.{instants_small}
 use Rattle.transforms_c.specs.Lengths.{rows_fit, capacity_fits}
 use Rattle.transforms_c.proofs.Areas.{few_rows_lem, few_samples}

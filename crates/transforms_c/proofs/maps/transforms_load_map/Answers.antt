@@ -1,6 +1,5 @@
 use mathlib.Core.Path.{ap}
 use Rattle.transforms_c.specs.Flat.{flat_loading}
-use borrow.Author.Rules.{rules}
 use Rattle.transforms_c.proofs.maps.transforms_load_map.Goals as goal
 
 pub returns : goal.returns

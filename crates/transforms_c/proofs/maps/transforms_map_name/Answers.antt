@@ -1,6 +1,5 @@
 use mathlib.Core.Path.{ap, ◌∙◌}
 use Rattle.transforms_c.specs.Flat.{flat_name}
-use borrow.Author.Rules.{rules}
 use Rattle.transforms_c.proofs.maps.transforms_map_name.Goals as goal
 
 pub returns : goal.returns

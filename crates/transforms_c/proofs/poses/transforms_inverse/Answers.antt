@@ -1,6 +1,5 @@
 use mathlib.Core.Path.{ap, ◌∙◌}
 use Rattle.transforms_c.specs.Flat.{flat_pose}
-use borrow.Author.Rules.{rules}
 use Rattle.transforms_c.proofs.poses.transforms_inverse.Goals as goal
 
 pub returns : goal.returns

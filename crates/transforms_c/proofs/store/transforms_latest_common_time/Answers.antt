@@ -1,6 +1,5 @@
 use mathlib.Core.Path.{ap, ◌∙◌}
 use Rattle.transforms_c.specs.Flat.{flat}
-use borrow.Author.Rules.{rules}
 use Rattle.transforms_c.proofs.store.transforms_latest_common_time.Goals as goal
 
 pub returns : goal.returns

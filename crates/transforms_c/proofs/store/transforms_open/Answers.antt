@@ -1,6 +1,5 @@
 use mathlib.Core.Path.{ap}
 use Rattle.transforms_c.specs.Flat.{flat_outcome}
-use borrow.Author.Rules.{rules}
 use Rattle.transforms_c.proofs.store.transforms_open.Goals as goal
 
 pub returns : goal.returns

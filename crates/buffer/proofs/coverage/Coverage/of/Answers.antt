@@ -3,7 +3,6 @@ use native.Mathlib.Omega.{arith}
 use Rattle.buffer.specs.Row.{samples_of}
 use Rattle.buffer.proofs.RangeLaws.{coverage_some}
 use Rattle.buffer.proofs.Places.{range_held}
-use borrow.Author.Rules.{rules}
 use Rattle.buffer.proofs.coverage.Coverage.of.Goals as goal
 
 pub returns-in-Static : goal.returns-in-Static

@@ -1,5 +1,4 @@
 use mathlib.Core.Path.{sym, ap}
-use borrow.Author.Rules.{rules}
 use Rattle.map_loading.specs.Loading.{load_reply}
 use Rattle.map_loading.proofs.answer.Loaded.answer.Goals as goal
 

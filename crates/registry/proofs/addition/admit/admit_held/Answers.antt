@@ -4,8 +4,7 @@ use mathlib.Core.Bool.{Bool, true, not}
 use mathlib.Core.List.{List}
 use lib.Dec.{eqb}
 use lib.Ieee.{Float}
-use borrow.Author.Rules.{rules}
-use borrow.Author.Tests.{eq-eqb, ne_eqb, not-true, not-false}
+use borrow.Author.Tests.{eq-eqb, ne_eqb}
 use Rattle.time.specs.Reply.{Reply, answer, nothing, frame, refuse, refusal}
 use Rattle.registry.specs.Tree.{Edge, same_kind}
 use Rattle.registry.specs.Store.{row_at}

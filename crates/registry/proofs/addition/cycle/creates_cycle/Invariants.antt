@@ -1,13 +1,6 @@
-use Prim.Native.Nat.{ℕ, ◌-◌}
-use mathlib.Core.Path.{◌≡◌, sym, ap, ◌∙◌}
-use mathlib.Core.List.{◌∷◌}
-use native.Mathlib.Omega.{arith}
-use borrow.Author.Rules.{rules}
-use borrow.Author.Tests.{eq-eqb, ne_eqb}
+use mathlib.Core.Path.{◌≡◌}
 use Rattle.registry.specs.Tree.{above, ancestors, member}
 use Rattle.registry.specs.paths.Edges.{OfTree}
-use Rattle.registry.proofs.layout.RowLaws.{used_header}
-use Rattle.registry.proofs.paths.TreeWalks.{above_by, above_used}
 use Rattle.registry.proofs.addition.cycle.creates_cycle.Given as goal
 
 -- `registry::addition::cycle::creates_cycle` meets its contract. The invariant of its loop: what is left of the walk decides.

@@ -1,4 +1,3 @@
-use borrow.Author.Rules.{rules}
 use Rattle.time.specs.Float.{zero64}
 use Rattle.registry.proofs.layout.RowInserting.{zeros_put}
 use Rattle.registry.proofs.addition.new_row.insert_zero_floats.Goals as goal

@@ -1,4 +1,3 @@
-use borrow.Author.Rules.{rules}
 use Rattle.registry.proofs.layout.RowInserting.{zeros_put}
 use Rattle.registry.proofs.addition.new_row.insert_zero_words.Goals as goal
 

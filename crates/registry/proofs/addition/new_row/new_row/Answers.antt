@@ -1,5 +1,4 @@
 use native.Mathlib.Omega.{arith}
-use borrow.Author.Rules.{rules}
 use Rattle.registry.specs.Store.{Store, used_in}
 use Rattle.registry.specs.Calls.{store_of}
 use Rattle.registry.specs.layout.Rows.{head_of, HasHeader}

@@ -1,4 +1,3 @@
-use borrow.Author.Rules.{rules}
 use mathlib.Core.Path.{sym, ap}
 use Rattle.time.specs.Reply.{Reply, answer, ◌then◌}
 use Rattle.geometry.specs.declared.transform.Answer.{Answer}

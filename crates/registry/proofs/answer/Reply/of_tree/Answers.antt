@@ -1,4 +1,3 @@
-use borrow.Author.Rules.{rules}
 use mathlib.Core.Path.{sym, ap}
 use Rattle.time.specs.Reply.{Reply}
 use Rattle.registry.specs.declared.answer.Answer.{Answer}

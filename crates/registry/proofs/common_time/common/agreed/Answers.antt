@@ -1,5 +1,4 @@
 use borrow.Author.Tests.{lt-ltb, le-ltb}
-use borrow.Author.Rules.{rules}
 use Rattle.registry.proofs.common_time.common.agreed.Goals as goal
 
 pub returns-then-end-late : goal.returns-then-end-late

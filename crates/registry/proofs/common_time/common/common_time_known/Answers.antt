@@ -1,6 +1,5 @@
 use mathlib.Core.Path.{◌∙◌}
 use mathlib.Core.List.{List}
-use borrow.Author.Rules.{rules}
 use lib.Ieee.{Float}
 use Rattle.registry.specs.Store.{Store, tree_of}
 use Rattle.registry.specs.Calls.{store_of}

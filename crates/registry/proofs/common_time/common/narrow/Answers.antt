@@ -1,5 +1,4 @@
 use borrow.Author.Tests.{lt-ltb, le-ltb}
-use borrow.Author.Rules.{rules}
 use Rattle.registry.proofs.common_time.common.narrow.Goals as goal
 
 pub returns-in_default : goal.returns-in_default

@@ -1,7 +1,6 @@
 use mathlib.Core.Path.{ap}
 use Rattle.time.specs.Reply.{answer}
 use Rattle.registry.specs.common_time.Spans.{CommonSpan}
-use borrow.Author.Rules.{rules}
 use Rattle.registry.proofs.common_time.common.narrow_by.Goals as goal
 
 pub returns-in-AllTime : goal.returns-in-AllTime

@@ -1,11 +1,9 @@
-use mathlib.Core.Path.{◌≡◌, refl, sym, ap, ◌∙◌}
+use mathlib.Core.Path.{◌≡◌, sym, ap, ◌∙◌}
 use mathlib.Core.List.{List, []}
 use native.Mathlib.Omega.{arith}
-use borrow.Author.Rules.{rules}
-use lib.ListN.{length}
 use lib.Ieee.{Float}
 use Rattle.registry.specs.declared.paths.edges.HopCoverage.{HopCoverage}
-use Rattle.registry.specs.Tree.{Tree, ancestors}
+use Rattle.registry.specs.Tree.{Tree}
 use Rattle.registry.specs.Store.{tree_of}
 use Rattle.registry.specs.Calls.{store_of}
 use Rattle.registry.specs.paths.Edges.{coverage_read}
@@ -13,7 +11,7 @@ use Rattle.registry.specs.paths.Walks.{hops_to}
 use Rattle.registry.specs.common_time.Spans.{common_of, narrowed}
 use Rattle.registry.proofs.paths.Climbing.{Grounded}
 use Rattle.registry.proofs.paths.SideHops.{ChildOf, grounded, less_above}
-use Rattle.registry.proofs.common_time.Narrowing.{narrow_on, Narrowing, coverage_parent, narrowing_top, narrowing_hop}
+use Rattle.registry.proofs.common_time.Narrowing.{narrow_on, coverage_parent, narrowing_top, narrowing_hop}
 use Rattle.registry.proofs.common_time.common.narrow_chain.Goals as goal
 
 pub coverage_of-requires : goal.coverage_of-requires

@@ -1,19 +1,11 @@
-use mathlib.Core.Path.{◌≡◌, refl, sym, ap, ◌∙◌}
 use mathlib.Core.List.{List, []}
-use native.Mathlib.Omega.{arith}
-use borrow.Author.Rules.{rules}
 use lib.ListN.{length}
 use lib.Ieee.{Float}
-use Rattle.registry.specs.declared.paths.edges.HopCoverage.{HopCoverage}
-use Rattle.registry.specs.Tree.{Tree, ancestors}
+use Rattle.registry.specs.Tree.{ancestors}
 use Rattle.registry.specs.Store.{tree_of}
 use Rattle.registry.specs.Calls.{store_of}
-use Rattle.registry.specs.paths.Edges.{coverage_read}
-use Rattle.registry.specs.paths.Walks.{hops_to}
-use Rattle.registry.specs.common_time.Spans.{common_of, narrowed}
-use Rattle.registry.proofs.paths.Climbing.{Grounded}
-use Rattle.registry.proofs.paths.SideHops.{ChildOf, grounded, less_above}
-use Rattle.registry.proofs.common_time.Narrowing.{narrow_on, Narrowing, coverage_parent, narrowing_top, narrowing_hop}
+use Rattle.registry.specs.common_time.Spans.{common_of}
+use Rattle.registry.proofs.common_time.Narrowing.{Narrowing}
 use Rattle.registry.proofs.common_time.common.narrow_chain.Given as goal
 
 -- `registry::common_time::common::narrow_chain` meets its contract. The invariant of its loop: the frame's hops narrow as those from `at` do.

@@ -1,7 +1,6 @@
 use mathlib.Core.Path.{ap}
 use Rattle.time.specs.Reply.{answer}
 use Rattle.geometry.specs.declared.isometry.Isometry.{Isometry}
-use borrow.Author.Rules.{rules}
 use Rattle.registry.proofs.lookup.compose.alone.Goals as goal
 
 pub returns-in_default : goal.returns-in_default

@@ -1,9 +1,7 @@
 use mathlib.Core.Path.{sym, ap, ◌∙◌}
 use Rattle.geometry.specs.Answers as geometry
-use Rattle.registry.specs.Path.{onto}
 use Rattle.registry.specs.lookup.Sides.{side_of}
 use Rattle.registry.proofs.lookup.Joining.{tested, inverse_onto, inverse_left}
-use borrow.Author.Rules.{rules}
 use Rattle.registry.proofs.lookup.compose.combine_transforms.Goals as goal
 
 pub returns-in_default : goal.returns-in_default

@@ -1,11 +1,9 @@
-use mathlib.Core.Path.{◌≡◌, refl, sym, ap, ◌∙◌}
+use mathlib.Core.Path.{◌≡◌, sym, ap, ◌∙◌}
 use mathlib.Core.Option.{none}
 use native.Mathlib.Omega.{arith}
-use borrow.Author.Rules.{rules}
-use lib.ListN.{length}
 use Rattle.time.specs.Reply.{◌then◌}
 use Rattle.registry.specs.declared.paths.edges.HopPose.{HopPose}
-use Rattle.registry.specs.Tree.{Tree, ancestors}
+use Rattle.registry.specs.Tree.{Tree}
 use Rattle.registry.specs.Store.{tree_of}
 use Rattle.registry.specs.Calls.{store_of}
 use Rattle.registry.specs.Path.{fold}
@@ -14,7 +12,7 @@ use Rattle.registry.specs.paths.Walks.{hops_to}
 use Rattle.registry.specs.lookup.Sides.{side_of}
 use Rattle.registry.proofs.paths.Climbing.{Grounded}
 use Rattle.registry.proofs.paths.SideHops.{grounded, less_above}
-use Rattle.registry.proofs.lookup.Composing.{fold_on, Composing, pose_parent, unserved_child, composing_top, composing_hop}
+use Rattle.registry.proofs.lookup.Composing.{fold_on, pose_parent, unserved_child, composing_top, composing_hop}
 use Rattle.registry.proofs.lookup.compose.compose_chain.Goals as goal
 
 pub pose_of-requires : goal.pose_of-requires

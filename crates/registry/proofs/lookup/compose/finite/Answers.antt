@@ -1,4 +1,3 @@
-use borrow.Author.Rules.{rules}
 use Rattle.geometry.specs.Isometry.{finite}
 use Rattle.registry.proofs.lookup.compose.finite.Goals as goal
 

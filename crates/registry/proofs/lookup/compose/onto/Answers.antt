@@ -1,5 +1,3 @@
-use borrow.Author.Rules.{rules}
-use Rattle.registry.specs.Path.{onto}
 use Rattle.registry.proofs.lookup.compose.onto.Goals as goal
 
 pub returns : goal.returns

@@ -1,5 +1,4 @@
 use mathlib.Core.Path.{refl, ◌∙◌}
-use borrow.Author.Rules.{rules}
 use Rattle.registry.specs.Store.{Store, tree_of}
 use Rattle.registry.specs.Calls.{store_of}
 use Rattle.registry.proofs.paths.Climbing.{Grounded}

@@ -1,12 +1,8 @@
-use Prim.Native.Nat.{◌+◌}
-use mathlib.Core.Path.{◌≡◌, refl}
-use mathlib.Core.Bool.{true}
+use mathlib.Core.Path.{refl}
 use native.Mathlib.Omega.{arith}
-use Rattle.registry.specs.Sound.{no_circle}
 use Rattle.registry.specs.Calls.{store_of}
-use Rattle.registry.specs.paths.Edges.{OfTree}
 use Rattle.registry.proofs.paths.SideHops.{grounded}
-use Rattle.registry.proofs.paths.ClimbingBoth.{Climbs, climbs_target, climbs_source, climbs_meet_lem, climbs_apart}
+use Rattle.registry.proofs.paths.ClimbingBoth.{climbs_target, climbs_source, climbs_meet_lem, climbs_apart}
 use Rattle.registry.proofs.paths.climbs.climb_both.Goals as goal
 
 pub loop-f-init : goal.loop-f-init

@@ -1,7 +1,6 @@
 use Prim.Native.Nat.{ℕ}
 use mathlib.Core.Path.{sym, ◌∙◌}
 use mathlib.Core.List.{List}
-use borrow.Author.Rules.{rules}
 use lib.Ieee.{Float}
 use Rattle.registry.specs.Tree.{Tree}
 use Rattle.registry.specs.Store.{tree_of}

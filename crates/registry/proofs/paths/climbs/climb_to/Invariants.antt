@@ -1,17 +1,9 @@
-use Prim.Native.Nat.{ℕ, ◌+◌, ◌-◌, ◌≤◌}
-use mathlib.Core.Path.{◌≡◌, sym, ap, ◌∙◌}
-use mathlib.Core.List.{List, ◌∷◌}
-use native.Mathlib.Omega.{arith}
-use borrow.Author.Rules.{rules}
-use lib.Ieee.{Float}
+use Prim.Native.Nat.{◌-◌, ◌≤◌}
+use mathlib.Core.Path.{◌≡◌}
 use Rattle.registry.specs.Tree.{above}
-use Rattle.registry.specs.Store.{used_in, tree_of}
-use Rattle.registry.specs.Calls.{store_of}
-use Rattle.registry.specs.layout.Rows.{head_of}
 use Rattle.registry.specs.paths.Edges.{OfTree}
 use Rattle.registry.specs.paths.Walks.{climb_to}
-use Rattle.registry.proofs.layout.RowLaws.{used_header}
-use Rattle.registry.proofs.paths.TreeWalks.{above_by, above_used, climb_on, climb_start, climb_ends, climb_here, climb_on_lem}
+use Rattle.registry.proofs.paths.TreeWalks.{climb_on}
 use Rattle.registry.proofs.paths.climbs.climb_to.Given as goal
 
 -- `registry::paths::climbs::climb_to` meets its contract. The invariant of its loop: what is left of the walk decides how the climb ends.

@@ -1,4 +1,3 @@
-use borrow.Author.Rules.{rules}
 use Rattle.registry.proofs.paths.TreeWalks.{up_by_lem}
 use Rattle.registry.proofs.paths.climbs.step_up.Goals as goal
 

@@ -1,5 +1,4 @@
 use mathlib.Core.Option.{some}
-use borrow.Author.Rules.{rules}
 use Rattle.registry.proofs.paths.EdgesOfRows.{row_used, row_within, row_edge, row_none}
 use Rattle.registry.proofs.paths.edges.coverage_of.Goals as goal
 

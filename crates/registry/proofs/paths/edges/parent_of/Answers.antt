@@ -1,6 +1,5 @@
 use mathlib.Core.Path.{ap}
 use mathlib.Core.Option.{some}
-use borrow.Author.Rules.{rules}
 use Rattle.registry.proofs.paths.EdgesOfRows.{row_within, row_edge, row_none}
 use Rattle.registry.proofs.paths.edges.parent_of.Goals as goal
 

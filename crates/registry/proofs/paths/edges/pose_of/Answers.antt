@@ -1,6 +1,5 @@
 use mathlib.Core.Path.{◌≡◌}
 use mathlib.Core.Option.{some}
-use borrow.Author.Rules.{rules}
 use Rattle.buffer.specs.Map.{get}
 use Rattle.registry.specs.Store.{Store, edge_at, tree_of}
 use Rattle.registry.specs.Calls.{store_of}

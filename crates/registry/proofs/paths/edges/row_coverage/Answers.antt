@@ -1,5 +1,4 @@
 use mathlib.Core.Path.{◌∙◌}
-use borrow.Author.Rules.{rules}
 use Rattle.registry.specs.Store.{row_poses}
 use Rattle.registry.specs.Calls.{store_of}
 use Rattle.registry.proofs.layout.RowLaws.{row_header}

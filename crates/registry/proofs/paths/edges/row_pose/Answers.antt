@@ -1,5 +1,4 @@
 use mathlib.Core.Path.{◌∙◌}
-use borrow.Author.Rules.{rules}
 use Rattle.registry.proofs.layout.RowLaws.{row_header}
 use Rattle.registry.proofs.paths.edges.row_pose.Goals as goal
 

@@ -1,6 +1,4 @@
 use mathlib.Core.Path.{sym, ◌∙◌}
-use borrow.Author.Rules.{rules}
-use borrow.Author.Tests.{not-true, not-false}
 use Rattle.registry.proofs.paths.AskEnds.{asked_same, asked_no_target, asked_no_source, asked_known}
 use Rattle.registry.proofs.paths.frames.find_frames.Goals as goal
 

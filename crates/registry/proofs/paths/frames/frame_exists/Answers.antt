@@ -1,5 +1,4 @@
 use mathlib.Core.Path.{◌∙◌}
-use borrow.Author.Rules.{rules}
 use Rattle.registry.proofs.paths.TreeWalks.{known_by_lem}
 use Rattle.registry.proofs.paths.frames.frame_exists.Goals as goal
 

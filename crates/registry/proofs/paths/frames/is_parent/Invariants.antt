@@ -1,11 +1,7 @@
 use Prim.Native.Nat.{ℕ, ◌-◌, ◌≤◌, ◌<◌}
-use mathlib.Core.Path.{◌≡◌, sym, ◌∙◌}
-use native.Mathlib.Omega.{arith}
-use borrow.Author.Count.{below_more}
+use mathlib.Core.Path.{◌≡◌}
 use Rattle.registry.specs.Store.{parent_in}
 use Rattle.registry.specs.layout.Rows.{head_of}
-use Rattle.registry.proofs.layout.RowLaws.{used_header, used_row}
-use Rattle.registry.proofs.paths.EdgesOfRows.{parent_found, parent_nowhere}
 use Rattle.registry.proofs.paths.frames.is_parent.Given as goal
 
 -- `registry::paths::frames::is_parent` meets its contract. The invariant of its loop: no row that was passed has the frame as parent.

@@ -1,7 +1,6 @@
 use mathlib.Core.Path.{sym, ap, ◌∙◌}
 use Prim.Native.Nat.{ℕ}
 use lib.Dec.{eqb}
-use borrow.Author.Rules.{rules}
 use Rattle.registry.proofs.soundness.HeadTests.{flag_set, flag_clear, flag_unnamed}
 use Rattle.registry.proofs.soundness.head_sound.age_named.Goals as goal
 

@@ -1,8 +1,8 @@
-use Prim.Native.Nat.{◌-◌, ◌≤◌}
+use Prim.Native.Nat.{◌-◌}
 use native.Mathlib.Omega.{arith}
 use borrow.Author.Count.{below_more}
 use Rattle.registry.proofs.layout.RowLaws.{used_header, used_row}
-use Rattle.registry.proofs.soundness.HeadTests.{Neighbours, rise_fails, rise_all}
+use Rattle.registry.proofs.soundness.HeadTests.{rise_fails, rise_all}
 use Rattle.registry.proofs.soundness.head_sound.children_rise.Goals as goal
 
 pub used-used-requires : goal.used-used-requires

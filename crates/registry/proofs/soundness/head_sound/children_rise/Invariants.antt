@@ -1,8 +1,5 @@
 use Prim.Native.Nat.{◌-◌, ◌≤◌}
-use native.Mathlib.Omega.{arith}
-use borrow.Author.Count.{below_more}
-use Rattle.registry.proofs.layout.RowLaws.{used_header, used_row}
-use Rattle.registry.proofs.soundness.HeadTests.{Neighbours, rise_fails, rise_all}
+use Rattle.registry.proofs.soundness.HeadTests.{Neighbours}
 use Rattle.registry.proofs.soundness.head_sound.children_rise.Given as goal
 
 -- `registry::soundness::head_sound::children_rise` meets its contract. The invariant of its loop: each child passed is above the one before.

@@ -4,7 +4,6 @@ use mathlib.Core.Bool.{true}
 use mathlib.Core.List.{List, []}
 use native.Mathlib.Omega.{arith}
 use lib.Ieee.{Float}
-use borrow.Author.Tests.{not-true, not-false}
 use Rattle.buffer.specs.Map.{rising}
 use Rattle.registry.specs.Store.{rows_in, used_in, tree_of}
 use Rattle.registry.specs.Sound.{every}

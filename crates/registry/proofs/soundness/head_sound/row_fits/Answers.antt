@@ -2,7 +2,6 @@ use mathlib.Core.Path.{◌≡◌, sym, ap, ◌∙◌}
 use Prim.Native.Nat.{ℕ}
 use native.Mathlib.Omega.{arith}
 use lib.Dec.{leb}
-use borrow.Author.Rules.{rules}
 use Rattle.registry.specs.Store.{child_in, parent_in}
 use Rattle.registry.specs.layout.Rows.{head_of}
 use Rattle.registry.proofs.soundness.HeadTests.{child_wide, parent_wide, own_parent, kind_decides}

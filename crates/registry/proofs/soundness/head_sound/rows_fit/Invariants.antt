@@ -1,15 +1,7 @@
 use Prim.Native.Nat.{ℕ, ◌-◌, ◌≤◌, ◌<◌}
-use mathlib.Core.Path.{◌≡◌, sym, ◌∙◌}
+use mathlib.Core.Path.{◌≡◌}
 use mathlib.Core.Bool.{true}
-use native.Mathlib.Omega.{arith}
-use borrow.Author.Count.{below_none, below_more}
-use borrow.Author.Tests.{not-true, not-false}
 use Rattle.registry.specs.soundness.Checks.{row_fits}
-use Rattle.registry.specs.Store.{used_in}
-use Rattle.registry.specs.layout.Rows.{head_of}
-use Rattle.registry.proofs.layout.RowLaws.{used_header, used_row}
-use Rattle.registry.proofs.soundness.Everys.{every_is}
-use Rattle.registry.proofs.soundness.AllTests.{every_fails}
 use Rattle.registry.proofs.soundness.head_sound.rows_fit.Given as goal
 
 -- `registry::soundness::head_sound::rows_fit` meets its contract. The invariant of its loop: each row passed fits.

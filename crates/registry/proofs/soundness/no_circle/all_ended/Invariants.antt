@@ -1,13 +1,8 @@
 use Prim.Native.Nat.{ℕ, ◌-◌, ◌≤◌, ◌<◌}
-use mathlib.Core.Path.{◌≡◌, sym}
+use mathlib.Core.Path.{◌≡◌}
 use mathlib.Core.Bool.{true}
-use native.Mathlib.Omega.{arith}
 use lib.ListN.{length, get_or}
 use lib.Dec.{leb}
-use borrow.Author.Count.{below_none, below_more}
-use borrow.Author.Tests.{le-leb, lt-leb}
-use Rattle.buffer.proofs.Alls.{all_at}
-use Rattle.registry.proofs.soundness.AllTests.{all_fails}
 use Rattle.registry.proofs.soundness.no_circle.all_ended.Given as goal
 
 -- `registry::soundness::no_circle::all_ended` meets its contract. The invariant of its loop: each entry passed is past the rows.

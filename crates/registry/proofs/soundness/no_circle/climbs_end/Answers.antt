@@ -1,9 +1,5 @@
-use Prim.Native.Nat.{◌-◌, ◌≤◌}
 use mathlib.Core.Path.{◌∙◌}
 use native.Mathlib.Omega.{arith}
-use lib.ListN.{length}
-use borrow.Author.Rules.{rules}
-use Rattle.registry.specs.soundness.Climbs.{Climbed}
 use Rattle.registry.proofs.soundness.Doubling.{climbed_twice, ended_is}
 use Rattle.registry.proofs.soundness.no_circle.climbs_end.Goals as goal
 

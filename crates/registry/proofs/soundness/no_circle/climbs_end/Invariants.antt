@@ -1,10 +1,6 @@
 use Prim.Native.Nat.{◌-◌, ◌≤◌}
-use mathlib.Core.Path.{◌∙◌}
-use native.Mathlib.Omega.{arith}
 use lib.ListN.{length}
-use borrow.Author.Rules.{rules}
 use Rattle.registry.specs.soundness.Climbs.{Climbed}
-use Rattle.registry.proofs.soundness.Doubling.{climbed_twice, ended_is}
 use Rattle.registry.proofs.soundness.no_circle.climbs_end.Given as goal
 
 -- `registry::soundness::no_circle::climbs_end` meets its contract. The invariant of its loop: each entry is at least so many steps up.

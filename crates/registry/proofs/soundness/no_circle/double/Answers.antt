@@ -1,10 +1,9 @@
-use Prim.Native.Nat.{ℕ, ◌-◌, ◌≤◌}
+use Prim.Native.Nat.{ℕ}
 use mathlib.Core.Path.{◌≡◌, refl, sym, ap, ◌∙◌}
 use mathlib.Core.List.{List}
 use native.Mathlib.Numerals.{add-one}
 use native.Mathlib.Omega.{arith}
 use lib.ListN.{length, set, length-set}
-use borrow.Author.Rules.{rules}
 use Rattle.registry.specs.soundness.Climbs.{jump_at, jumped}
 use Rattle.registry.proofs.soundness.no_circle.double.Goals as goal
 

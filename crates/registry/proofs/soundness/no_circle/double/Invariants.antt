@@ -1,11 +1,7 @@
-use Prim.Native.Nat.{ℕ, ◌-◌, ◌≤◌}
-use mathlib.Core.Path.{◌≡◌, refl, sym, ap, ◌∙◌}
-use mathlib.Core.List.{List}
-use native.Mathlib.Numerals.{add-one}
-use native.Mathlib.Omega.{arith}
-use lib.ListN.{length, set, length-set}
-use borrow.Author.Rules.{rules}
-use Rattle.registry.specs.soundness.Climbs.{jump_at, jumped}
+use Prim.Native.Nat.{◌-◌, ◌≤◌}
+use mathlib.Core.Path.{◌≡◌}
+use lib.ListN.{length}
+use Rattle.registry.specs.soundness.Climbs.{jumped}
 use Rattle.registry.proofs.soundness.no_circle.double.Given as goal
 
 -- `registry::soundness::no_circle::double` meets its contract. The invariant of its loop: the first entries have moved on.

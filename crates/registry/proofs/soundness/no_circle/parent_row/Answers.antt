@@ -1,6 +1,5 @@
 use Prim.Native.Nat.{ℕ}
 use mathlib.Core.Path.{sym, subst}
-use borrow.Author.Rules.{rules}
 use Rattle.registry.specs.Store.{parent_in}
 use Rattle.registry.specs.layout.Rows.{head_of, Finds}
 use Rattle.registry.specs.soundness.Climbs.{IsUp}

@@ -1,7 +1,6 @@
-use Prim.Native.Nat.{ℕ, ◌-◌, ◌≤◌, ◌<◌}
-use mathlib.Core.Path.{◌≡◌}
+use Prim.Native.Nat.{ℕ}
 use native.Mathlib.Omega.{arith}
-use lib.ListN.{length, get_or, length-set}
+use lib.ListN.{length-set}
 use Rattle.registry.specs.soundness.Climbs.{IsUp}
 use Rattle.registry.proofs.soundness.Doubling.{at_set}
 use Rattle.registry.proofs.soundness.no_circle.parent_rows.Goals as goal

@@ -1,9 +1,7 @@
 use Prim.Native.Nat.{ℕ, ◌-◌, ◌≤◌, ◌<◌}
 use mathlib.Core.Path.{◌≡◌}
-use native.Mathlib.Omega.{arith}
-use lib.ListN.{length, get_or, length-set}
+use lib.ListN.{length, get_or}
 use Rattle.registry.specs.soundness.Climbs.{IsUp}
-use Rattle.registry.proofs.soundness.Doubling.{at_set}
 use Rattle.registry.proofs.soundness.no_circle.parent_rows.Given as goal
 
 -- `registry::soundness::no_circle::parent_rows` meets its contract. The invariant of its loop: each entry passed is one step up.

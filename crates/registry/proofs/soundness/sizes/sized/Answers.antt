@@ -1,10 +1,5 @@
 use mathlib.Core.Path.{sym, ◌∙◌}
-use mathlib.Core.Bool.{◌&&◌}
-use native.Mathlib.Omega.{arith}
-use lib.Dec.{leb}
-use lib.ListN.{length}
-use borrow.Author.Rules.{rules}
-use borrow.Author.Tests.{not-true, not-false, leb-true}
+use borrow.Author.Tests.{leb-true}
 use Rattle.registry.specs.Store.{sizes_fit, sized}
 use Rattle.registry.specs.Calls.{store_of}
 use Rattle.registry.specs.layout.Rows.{HasHeader}

@@ -2,8 +2,6 @@ use Prim.Native.Nat.{ℕ}
 use mathlib.Core.Path.{◌≡◌, sym, ap, ◌∙◌}
 use lib.Dec.{eqb}
 use lib.ListN.{drop}
-use borrow.Author.Rules.{rules}
-use borrow.Author.Tests.{not-true, not-false}
 use Rattle.buffer.specs.Map.{all}
 use Rattle.buffer.specs.Row.{is_zero}
 use Rattle.registry.specs.Store.{Store, head_length, instants_length, poses_length, unused_head, unused_instants}
