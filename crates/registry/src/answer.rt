@@ -9,7 +9,7 @@ use geometry::isometry::Isometry;
 use geometry::transform::Answer as Posed;
 
 // The range of a hop, if it holds any sample.
-#[derive(Drop)]
+#[derive(Clone, Copy)]
 pub enum Covered {
     Range { start: u64, end: u64 },
     Nothing,
@@ -43,7 +43,7 @@ pub enum Answer {
 }
 
 // The data that a refusal carries.
-#[derive(Drop)]
+#[derive(Clone, Copy)]
 pub enum Carried {
     Nothing,
     Norm(f64),
@@ -52,7 +52,7 @@ pub enum Carried {
 }
 
 // An answer, or a refusal by its number in the table of noes.
-#[derive(Drop)]
+#[derive(Clone, Copy)]
 pub enum Reply {
     Done,
     Pose(Isometry),
