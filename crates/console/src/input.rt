@@ -1,27 +1,22 @@
 // Standard input.
-ghost use Rattle.std.specs.Prelude.{◌≡◌, ◌-◌, ◌^◌, ◌<◌, ◌≤◌, length};
+ghost use Rattle.std.specs.Prelude.{◌≡◌, ◌≤◌, length, IfOk};
 
 use crate::retry;
+use std::io;
+use std::io::Read;
+use std::rt::Clock;
 
-// More bytes than any buffer has.
-const FAILED: usize = usize::MAX;
-
-// Reads once, and answers how many bytes came, which stand at the start of the buffer: 0 at the end of the input. Where
-// reading fails, standard error is told, and the answer is 2^64 - 1, more than the buffer has.
-pub fn read(buf: &mut [u8]) -> usize
-    ensures { (result < 2 ^ 64 - 1 → result ≤ length buf.old) × (length buf.new ≡ length buf.old) }
+// Reads once, and answers how many bytes came, which stand at the start of the buffer: 0 at the end of the input.
+pub fn read(rt: &(impl Input + Clock), buf: &mut [u8]) -> io::Result<usize>
+    ensures count { IfOk result (λ n. n ≤ length buf.old) }
+    ensures same_length { length buf.new ≡ length buf.old }
 {
-    let mut tries = retry::TRIES;
-    while tries > 0 {
-        let got = libc::read(libc::STDIN_FILENO, buf);
-        if got >= 0 {
-            return io::count(got, buf);
+    let mut reader = rt.reader();
+    for _ in 0..retry::TRIES {
+        match reader.read(buf) {
+            Ok(n) => return Ok(n),
+            Err(error) => retry::again(rt, error)?,
         }
-        if !retry::again() {
-            os::fail(b"standard input");
-            return FAILED;
-        }
-        tries -= 1;
     }
-    FAILED
+    Err(retry::too_many())
 }

@@ -4,6 +4,7 @@
 
 pub mod dot;
 mod edges;
+pub mod failure;
 pub mod figures;
 pub mod input;
 pub mod output;

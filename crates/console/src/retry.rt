@@ -1,28 +1,29 @@
 // A call of the system that failed for the moment only: a signal interrupted it, or a descriptor that does not block
 // was not ready.
+use std::io::ErrorKind;
+use std::rt::Clock;
+use std::time::Duration;
+use std::{io, thread};
+
+// How long a descriptor that is not ready is waited for, before the call is made again.
+const MILLISECONDS: u64 = 1;
 
 // More tries than any run makes.
 pub(crate) const TRIES: u64 = u64::MAX;
 
-// Waits for a millisecond.
-fn wait() {
-    let asked = libc::types::timespec {
-        tv_sec: 0,
-        tv_nsec: 1000000,
-    };
-    let mut left = libc::types::timespec {
-        tv_sec: 0,
-        tv_nsec: 0,
-    };
-    libc::nanosleep(&asked, &mut left);
+// The error after the last of them.
+pub(crate) fn too_many() -> io::Error {
+    io::Error::from(ErrorKind::TimedOut)
 }
 
-// Whether the call that just failed is to be made again, after a wait where a descriptor is not ready.
-pub(crate) fn again() -> bool {
-    let error = os::errno();
-    if error == libc::EAGAIN {
-        wait();
-        return true;
+// Waits, where the call that failed so is to be made again. Any other error is handed back.
+pub(crate) fn again(rt: &impl Clock, error: io::Error) -> io::Result<()> {
+    match error.kind() {
+        ErrorKind::Interrupted => Ok(()),
+        ErrorKind::WouldBlock => {
+            thread::sleep(rt, Duration::from_millis(MILLISECONDS));
+            Ok(())
+        }
+        _ => Err(error),
     }
-    error == libc::EINTR
 }

@@ -1,4 +1,10 @@
 // A file read whole into a lent buffer. Where that fails, standard error says why.
+ghost use Rattle.std.specs.Prelude.{◌≤◌, length, IfOk, IfSome};
+
+use console::failure;
+use std::io::{ErrorKind, Read};
+use std::rt::Files;
+use std::{fs, io};
 
 // How many bytes the file has, which stand at the buffer's start, or that they are not there.
 #[derive(Drop)]
@@ -7,46 +13,54 @@ pub(crate) enum File {
     Unread,
 }
 
-// Says that a file is too large.
-fn too_large(path: &[u8], most: usize) {
-    io::write_all(libc::STDERR_FILENO, path);
-    io::write_all(libc::STDERR_FILENO, b": larger than ");
-    io::print_decimal(libc::STDERR_FILENO, most as u64);
-    io::write_all(libc::STDERR_FILENO, b" bytes, the most that is read\n");
+// Reads until the buffer is full or the file ends, and answers how many bytes came.
+fn fill(file: &mut impl Read, buf: &mut [u8]) -> io::Result<usize>
+    ensures { IfOk result (λ n. n ≤ length buf.old) }
+{
+    let mut done = 0;
+    for _ in 0..u64::MAX {
+        if buf.len() <= done {
+            break;
+        }
+        match file.read(&mut buf[done..]) {
+            Ok(0) => break,
+            Ok(n) => done += n,
+            Err(error) if error.kind() == ErrorKind::Interrupted => {}
+            Err(error) => return Err(error),
+        }
+    }
+    Ok(done)
 }
 
-// Reads what is open there. One more read then tells a file that has ended from one that goes on, and from one
-// that cannot be read, such as a directory.
-fn read_open(fd: i32, path: &[u8], buf: &mut [u8]) -> File {
-    let n = io::read_full(fd, buf);
-    let mut more = [0u8; 1];
-    let rest = libc::read(fd, &mut more);
-    if rest < 0 {
-        os::fail(path);
-        return File::Unread;
-    }
-    if rest > 0 {
-        too_large(path, buf.len());
-        return File::Unread;
-    }
-    File::Bytes(n)
+// How many bytes the file has, and none where it is larger than the buffer. One more read behind what fills the buffer
+// tells a file that has ended from one that goes on.
+fn read_whole(file: &mut impl Read, buf: &mut [u8]) -> io::Result<Option<usize>>
+    ensures { IfOk result (λ size. IfSome size (λ n. n ≤ length buf.old)) }
+{
+    let count = fill(file, buf)?;
+    let more = fill(file, &mut [0u8; 1])?;
+    Ok(if more == 0 { Some(count) } else { None })
 }
 
 // Reads the file of that name.
-pub(crate) fn read(path: &[u8], buf: &mut [u8]) -> File {
-    if path.len() == 0 {
-        io::write_all(
-            libc::STDERR_FILENO,
-            b"map: the file's name is empty or too long\n",
-        );
-        return File::Unread;
+pub(crate) fn read(rt: &(impl Files + Eprint), path: &str, buf: &mut [u8]) -> File {
+    let mut file = match fs::open(rt, path) {
+        Ok(file) => file,
+        Err(error) => {
+            failure::say(rt, path, error);
+            return File::Unread;
+        }
+    };
+    match read_whole(&mut file, buf) {
+        Ok(Some(count)) => File::Bytes(count),
+        Ok(None) => {
+            let most = buf.len();
+            let _ = eprintln!(rt; "{path}: larger than {most} bytes, the most that is read");
+            File::Unread
+        }
+        Err(error) => {
+            failure::say(rt, path, error);
+            File::Unread
+        }
     }
-    let fd = os::open_read(path);
-    if fd < 0 {
-        os::fail(path);
-        return File::Unread;
-    }
-    let file = read_open(fd, path, buf);
-    libc::close(fd);
-    file
 }

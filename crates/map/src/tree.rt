@@ -3,6 +3,7 @@
 use crate::frames::{MOST_FRAMES, NO_FRAME};
 use crate::{frames, lines, names};
 use console::figures;
+use console::output::Output;
 use map_file::form;
 use map_file::form::Form;
 use registry::answer::Answer;
@@ -63,6 +64,7 @@ fn put_mounting(
 
 // Prints the frame that is found, if there is one.
 fn print_found(
+    rt: &impl Output,
     out: &mut [u8],
     head: &[u64],
     instants: &[u64],
@@ -79,11 +81,12 @@ fn print_found(
     let third = names::put_frame(out, second, map, frame);
     let above = frames::parent(parents, frame);
     let end = put_mounting(out, third, head, instants, poses, above, frame);
-    lines::print(out, end);
+    lines::print(rt, out, end);
 }
 
 // Prints every frame: the walk comes to each once, and once to the end of its children.
 fn print_frames(
+    rt: &impl Output,
     out: &mut [u8],
     head: &[u64],
     instants: &[u64],
@@ -95,31 +98,37 @@ fn print_frames(
         under: NO_FRAME,
         from: 0,
     };
-    let mut turn = 0;
-    while turn < 2 * MOST_FRAMES {
+    for _ in 0..2 * MOST_FRAMES {
         let found = frames::child_from(parents, walk.under, walk.from);
-        print_found(out, head, instants, poses, map, parents, found);
+        print_found(rt, out, head, instants, poses, map, parents, found);
         walk = next(parents, walk, found);
-        turn += 1;
     }
 }
 
-fn print_counts(out: &mut [u8], count: usize, records: u32) {
+fn print_counts(rt: &impl Output, out: &mut [u8], count: usize, records: u32) {
     let second = text::write_bytes(out, 0, b"frames: ");
     let third = text::write_number(out, second, count as u64);
     let fourth = text::write_bytes(out, third, b", records: ");
     let end = text::write_number(out, fourth, records as u64);
-    lines::print(out, end);
+    lines::print(rt, out, end);
 }
 
 // Prints the map that has been loaded into the store.
-pub(crate) fn print(head: &[u64], instants: &[u64], poses: &[f64], map: &[u8]) {
+pub(crate) fn print(rt: &impl Output, head: &[u64], instants: &[u64], poses: &[f64], map: &[u8]) {
     let mut line = [0u8; lines::LINE_BYTES];
     let mut parents = [NO_FRAME; MOST_FRAMES];
     let records = record_count(map);
     let count = frames::fill_parents(map, records, &mut parents);
-    print_counts(&mut line, count, records);
+    print_counts(rt, &mut line, count, records);
     if count <= MOST_FRAMES {
-        print_frames(&mut line, head, instants, poses, map, &parents[0..count]);
+        print_frames(
+            rt,
+            &mut line,
+            head,
+            instants,
+            poses,
+            map,
+            &parents[0..count],
+        );
     }
 }

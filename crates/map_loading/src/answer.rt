@@ -6,7 +6,7 @@ ghost use Rattle.map_loading.specs.Loading.{load_reply};
 use registry::answer::Answer;
 
 // Done, what is refused of the store or of the file, or a record's number and what its addition was refused with.
-#[derive(Drop)]
+#[derive(Clone, Copy)]
 pub enum Loaded {
     Done,
     Sizes,

@@ -8,15 +8,17 @@ mod sizes;
 mod store;
 mod stores;
 
-fn main() {
-    poses::roots();
-    poses::tolerance();
-    stores::tolerance();
-    stores::ages();
-    poses::interpolation();
-    stores::interpolation();
-    stores::common_times();
-    stores::refusals();
-    stores::chain();
-    sizes::sizes();
+use std::io;
+
+fn main(rt: HostRuntime) -> io::Result<()> {
+    poses::roots(&rt)?;
+    poses::tolerance(&rt)?;
+    stores::tolerance(&rt)?;
+    stores::ages(&rt)?;
+    poses::interpolation(&rt)?;
+    stores::interpolation(&rt)?;
+    stores::common_times(&rt)?;
+    stores::refusals(&rt)?;
+    stores::chain(&rt)?;
+    sizes::sizes(&rt)
 }

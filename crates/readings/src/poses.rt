@@ -4,6 +4,7 @@ use geometry::isometry::Isometry;
 use geometry::quaternion::Quaternion;
 use geometry::vector3::Vector3;
 use libm::float::from_bits;
+use std::io;
 
 // A translation without a rotation.
 pub(crate) fn moved(x: f64, y: f64) -> Isometry {
@@ -31,36 +32,41 @@ pub(crate) const TAKEN: u64 = 0x3ff0_0001_0c6f_7a0b;
 
 pub(crate) const REFUSED: u64 = 0x3ff0_0001_0c6f_7a0c;
 
-fn sqrt(x: f64, expected: &[u8]) {
-    report::asked_float(b"root of", x);
-    report::float(expected, libm::sqrt(x));
+fn sqrt(rt: &impl Print, x: f64, expected: &[u8]) -> io::Result<()> {
+    report::asked_float(rt, b"root of", x)?;
+    report::float(rt, expected, libm::sqrt(x))
 }
 
-pub(crate) fn roots() {
-    sqrt(0.0, b"float 0000000000000000");
-    sqrt(4.0, b"float 4000000000000000");
+pub(crate) fn roots(rt: &impl Print) -> io::Result<()> {
+    sqrt(rt, 0.0, b"float 0000000000000000")?;
+    sqrt(rt, 4.0, b"float 4000000000000000")?;
     // 2^-1074
-    sqrt(5e-324, b"float 1e60000000000000");
+    sqrt(rt, 5e-324, b"float 1e60000000000000")
 }
 
-fn validate(p: Isometry, expected: &[u8]) {
-    report::put(b"validate");
-    report::asked_pose(p);
-    report::of_pose(expected, geometry::transform::validate(p));
+fn validate(rt: &impl Print, p: Isometry, expected: &[u8]) -> io::Result<()> {
+    report::put(rt, b"validate")?;
+    report::asked_pose(rt, p)?;
+    report::of_pose(rt, expected, geometry::transform::validate(p))
 }
 
-pub(crate) fn tolerance() {
+pub(crate) fn tolerance(rt: &impl Print) -> io::Result<()> {
     validate(
+        rt,
         turned(TAKEN),
         b"pose 0000000000000000 0000000000000000 0000000000000000 3ff000010c6f7a0b 0000000000000000 0000000000000000 0000000000000000",
-    );
-    validate(turned(REFUSED), b"no 4 3ff000010c6f7a0c");
+    )?;
+    validate(rt, turned(REFUSED), b"no 4 3ff000010c6f7a0c")
 }
 
-pub(crate) fn interpolation() {
-    report::put(b"x 0 at 0 and 4 at 4000000000, interpolated at 1000000000");
+pub(crate) fn interpolation(rt: &impl Print) -> io::Result<()> {
+    report::put(
+        rt,
+        b"x 0 at 0 and 4 at 4000000000, interpolated at 1000000000",
+    )?;
     report::of_pose(
+        rt,
         b"pose 3ff0000000000000 0000000000000000 0000000000000000 3ff0000000000000 0000000000000000 0000000000000000 0000000000000000",
         moved(0.0, 0.0).interpolate(moved(4.0, 0.0), 0, 4000000000, 1000000000),
-    );
+    )
 }

@@ -4,6 +4,7 @@ ghost use Rattle.std.specs.Prelude.{◌≤◌};
 use super::report;
 use buffer::max_age::MaxAge;
 use registry::open::open;
+use std::io;
 
 // A number of words that a slice has.
 fn least(n: usize, len: usize) -> usize
@@ -14,6 +15,7 @@ fn least(n: usize, len: usize) -> usize
 
 // Opens a store in the first words of each slice.
 fn open_in(
+    rt: &impl Print,
     head: &mut [u64],
     instants: &mut [u64],
     poses: &mut [f64],
@@ -23,8 +25,8 @@ fn open_in(
     i: usize,
     p: usize,
     expected: &[u8],
-) {
-    report::asked(b"open", rows, samples);
+) -> io::Result<()> {
+    report::asked(rt, b"open", rows, samples)?;
     let head_len = least(h, head.len());
     let instants_len = least(i, instants.len());
     let poses_len = least(p, poses.len());
@@ -36,29 +38,29 @@ fn open_in(
         samples,
         MaxAge::Unlimited,
     );
-    report::of_tree(expected, answer);
+    report::of_tree(rt, expected, answer)
 }
 
-fn opened(h: &mut [u64], i: &mut [u64], p: &mut [f64]) {
-    open_in(h, i, p, 256, 1, 1029, 256, 1792, b"done");
-    open_in(h, i, p, 1, 1024, 9, 1024, 7168, b"done");
+fn opened(rt: &impl Print, h: &mut [u64], i: &mut [u64], p: &mut [f64]) -> io::Result<()> {
+    open_in(rt, h, i, p, 256, 1, 1029, 256, 1792, b"done")?;
+    open_in(rt, h, i, p, 1, 1024, 9, 1024, 7168, b"done")
 }
 
-fn rows_refused(h: &mut [u64], i: &mut [u64], p: &mut [f64]) {
-    open_in(h, i, p, 0, 1, 5, 0, 0, b"no 1");
-    open_in(h, i, p, 257, 1, 1033, 257, 1799, b"no 1");
+fn rows_refused(rt: &impl Print, h: &mut [u64], i: &mut [u64], p: &mut [f64]) -> io::Result<()> {
+    open_in(rt, h, i, p, 0, 1, 5, 0, 0, b"no 1")?;
+    open_in(rt, h, i, p, 257, 1, 1033, 257, 1799, b"no 1")
 }
 
-fn samples_refused(h: &mut [u64], i: &mut [u64], p: &mut [f64]) {
-    open_in(h, i, p, 1, 0, 9, 0, 0, b"no 1");
-    open_in(h, i, p, 1, 1025, 9, 1025, 7175, b"no 1");
+fn samples_refused(rt: &impl Print, h: &mut [u64], i: &mut [u64], p: &mut [f64]) -> io::Result<()> {
+    open_in(rt, h, i, p, 1, 0, 9, 0, 0, b"no 1")?;
+    open_in(rt, h, i, p, 1, 1025, 9, 1025, 7175, b"no 1")
 }
 
-pub(crate) fn sizes() {
+pub(crate) fn sizes(rt: &impl Print) -> io::Result<()> {
     let mut head = [0u64; 1033];
     let mut instants = [0u64; 1025];
     let mut poses = [0.0f64; 7175];
-    opened(&mut head, &mut instants, &mut poses);
-    rows_refused(&mut head, &mut instants, &mut poses);
-    samples_refused(&mut head, &mut instants, &mut poses);
+    opened(rt, &mut head, &mut instants, &mut poses)?;
+    rows_refused(rt, &mut head, &mut instants, &mut poses)?;
+    samples_refused(rt, &mut head, &mut instants, &mut poses)
 }

@@ -16,7 +16,7 @@ pub enum Covered {
 }
 
 // An answer or a refusal. The refusals stand in the order of their numbers.
-#[derive(Drop)]
+#[derive(Clone, Copy)]
 pub enum Answer {
     Done,
     Pose(Isometry),

@@ -3,6 +3,17 @@ ghost use Rattle.std.specs.Prelude.{◌≤◌, ◌<◌};
 
 use super::memory;
 use super::memory::Reply;
+use console::output::Output;
+
+// How many bytes are read at once.
+const CHUNK_BYTES: usize = 65536;
+
+// The most bytes of a line.
+pub(crate) const LINE_BYTES: usize = 512;
+
+// The buffer of answers has room for the longest answer for people, a picture of 256 frames one below the other, which is
+// less than 90,000 bytes.
+pub(crate) const ANSWER_BYTES: usize = 131072;
 
 // How many bytes of the line are held, whether the line is too long, what the answers came to, and whether there is
 // more to read.
@@ -37,6 +48,7 @@ fn kept(used: usize, over: bool, len: usize) -> usize
 
 // The answer to the first `used` bytes, with its line end.
 fn answered(
+    rt: &impl Output,
     line: &[u8],
     used: usize,
     over: bool,
@@ -51,9 +63,9 @@ fn answered(
         return before;
     }
     let lent = before.lent;
-    let to = console::output::spare(out, before.at);
+    let to = console::output::spare(rt, out, before.at);
     let n = kept(used, over, line.len());
-    let reply = memory::answer(&line[0..n], head, instants, poses, map, out, to, lent);
+    let reply = memory::answer(rt, &line[0..n], head, instants, poses, map, out, to, lent);
     let at = console::output::line_end(out, reply.at);
     let left = reply.lent;
     Reply { at, lent: left }
@@ -70,6 +82,7 @@ fn hold(line: &mut [u8], used: usize, b: u8) -> usize {
 
 // Takes one byte: a line end has the line answered, any other byte goes to the line's end.
 fn take(
+    rt: &impl Output,
     b: u8,
     line: &mut [u8],
     head: &mut [u64],
@@ -83,7 +96,9 @@ fn take(
     let over = st.over;
     let before = st.reply;
     if b == b'\n' {
-        let reply = answered(line, used, over, head, instants, poses, map, out, before);
+        let reply = answered(
+            rt, line, used, over, head, instants, poses, map, out, before,
+        );
         return State {
             used: 0,
             over: false,
@@ -102,6 +117,7 @@ fn take(
 
 // Takes the bytes of a chunk.
 fn feed(
+    rt: &impl Output,
     chunk: &[u8],
     line: &mut [u8],
     head: &mut [u64],
@@ -112,19 +128,17 @@ fn feed(
     st: State,
 ) -> State {
     let mut now = st;
-    let mut i = 0;
-    while i < chunk.len() {
-        now = take(chunk[i], line, head, instants, poses, map, out, now);
-        i += 1;
+    for b in chunk {
+        now = take(rt, *b, line, head, instants, poses, map, out, now);
     }
     now
 }
 
 // The state with the answers so far written out, or with no more to read where that fails.
-fn written(out: &[u8], st: State) -> State {
+fn written(rt: &impl Output, out: &[u8], st: State) -> State {
     let reply = st.reply;
     let lent = reply.lent;
-    let at = console::output::flush(out, reply.at);
+    let at = console::output::flush(rt, out, reply.at);
     State {
         used: st.used,
         over: st.over,
@@ -157,6 +171,7 @@ fn going_on(st: State, n: usize) -> State {
 
 // Writes out what has been answered, then waits for input once and takes what came.
 fn turn(
+    rt: &(impl Input + Output),
     line: &mut [u8],
     head: &mut [u64],
     instants: &mut [u64],
@@ -165,16 +180,29 @@ fn turn(
     out: &mut [u8],
     st: State,
 ) -> State {
-    let before = written(out, st);
+    let before = written(rt, out, st);
     if !before.more {
         return before;
     }
-    let mut chunk = io::large_buffer();
-    let n = console::input::read(&mut chunk);
-    if chunk.len() < n {
-        return cut_off(before);
-    }
-    let next = feed(&chunk[0..n], line, head, instants, poses, map, out, before);
+    let mut chunk = [0u8; CHUNK_BYTES];
+    let n = match console::input::read(rt, &mut chunk) {
+        Ok(n) => n,
+        Err(error) => {
+            console::failure::say(rt, "standard input", error);
+            return cut_off(before);
+        }
+    };
+    let next = feed(
+        rt,
+        &chunk[0..n],
+        line,
+        head,
+        instants,
+        poses,
+        map,
+        out,
+        before,
+    );
     going_on(next, n)
 }
 
@@ -188,6 +216,7 @@ fn left(turns: u64, more: bool) -> u64
 
 // All lines that end. The count of turns is one that no run uses up.
 fn read_all(
+    rt: &(impl Input + Output),
     line: &mut [u8],
     head: &mut [u64],
     instants: &mut [u64],
@@ -203,7 +232,7 @@ fn read_all(
     };
     let mut turns = u64::MAX;
     while turns > 0 {
-        st = turn(line, head, instants, poses, map, out, st);
+        st = turn(rt, line, head, instants, poses, map, out, st);
         turns = left(turns, st.more);
     }
     st
@@ -211,17 +240,18 @@ fn read_all(
 
 // A last line with no line end is answered too.
 pub(crate) fn run(
-    line: &mut [u8],
-    head: &mut [u64],
-    instants: &mut [u64],
-    poses: &mut [f64],
-    map: &mut [u8],
-    out: &mut [u8],
+    rt: &(impl Input + Output),
+    line: &mut [u8; LINE_BYTES],
+    head: &mut [u64; memory::HEAD_WORDS],
+    instants: &mut [u64; memory::SAMPLES],
+    poses: &mut [f64; memory::FLOATS],
+    map: &mut [u8; memory::MAP_BYTES],
+    out: &mut [u8; ANSWER_BYTES],
 ) {
-    let st = read_all(line, head, instants, poses, map, out);
+    let st = read_all(rt, line, head, instants, poses, map, out);
     let before = st.reply;
     let reply = answered(
-        line, st.used, st.over, head, instants, poses, map, out, before,
+        rt, line, st.used, st.over, head, instants, poses, map, out, before,
     );
-    console::output::flush(out, reply.at);
+    console::output::flush(rt, out, reply.at);
 }

@@ -4,12 +4,25 @@ ghost use Rattle.std.specs.Prelude.{◌≤◌};
 use super::operands::{Age, Three};
 use super::{maps, operands, output, store};
 use buffer::max_age::MaxAge;
+use console::output::Output;
 use registry::answer::Answer;
 use registry::layout;
 use text::Number;
 
+// The words of the head of a store of 256 rows.
+pub(crate) const HEAD_WORDS: usize = 1029;
+
+// The most samples of a store.
+pub(crate) const SAMPLES: usize = 65536;
+
+// Their floats, seven of each.
+pub(crate) const FLOATS: usize = 458752;
+
+// The most bytes of a map file.
+pub(crate) const MAP_BYTES: usize = 65536;
+
 // How many words of each slice are lent, and how many bytes of the map file.
-#[derive(Drop)]
+#[derive(Clone, Copy)]
 pub(crate) struct Lent {
     head: usize,
     instants: usize,
@@ -146,9 +159,9 @@ fn open(
     let Opening::Value(store) = read_store(line, at, before, most) else {
         return refused(out, to, before);
     };
+    let lent = store.lent;
     let answer = open_in(head, instants, poses, store);
     let next = output::of_tree(out, to, answer);
-    let lent = store.lent;
     Reply { at: next, lent }
 }
 
@@ -212,6 +225,7 @@ fn lend_map(
 
 // The answer to a line that changes nothing of what is lent. What is lent is within the memory.
 fn answer_lent(
+    rt: &impl Output,
     line: &[u8],
     head: &mut [u64],
     instants: &mut [u64],
@@ -226,6 +240,7 @@ fn answer_lent(
     let p = least(lent.poses, poses.len());
     let m = least(lent.map, map.len());
     store::answer(
+        rt,
         line,
         &mut head[0..h],
         &mut instants[0..i],
@@ -238,6 +253,7 @@ fn answer_lent(
 
 // The answer to a line, with no line end behind it.
 pub(crate) fn answer(
+    rt: &impl Output,
     line: &[u8],
     head: &mut [u64],
     instants: &mut [u64],
@@ -265,6 +281,6 @@ pub(crate) fn answer(
     if file > 0 {
         return lend_map(line, file, map, out, to, lent);
     }
-    let at = answer_lent(line, head, instants, poses, map, out, to, lent);
+    let at = answer_lent(rt, line, head, instants, poses, map, out, to, lent);
     Reply { at, lent }
 }

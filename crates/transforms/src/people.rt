@@ -2,6 +2,7 @@
 // What was answered before a long one is written out first, so that it finds the buffer empty.
 use super::operands::Query;
 use super::{operands, output};
+use console::output::Output;
 
 // `show TARGET SOURCE INSTANT`
 pub(crate) fn show(
@@ -21,6 +22,7 @@ pub(crate) fn show(
 
 // `why TARGET SOURCE INSTANT`
 pub(crate) fn why(
+    rt: &impl Output,
     line: &[u8],
     at: usize,
     head: &[u64],
@@ -32,12 +34,13 @@ pub(crate) fn why(
     let Query::Value(target, source, t) = operands::read_query(line, at) else {
         return output::malformed(out, to);
     };
-    let free = console::output::flush(out, to);
+    let free = console::output::flush(rt, out, to);
     console::why::why(head, instants, poses, target, source, t, out, free)
 }
 
 // `tree`
 pub(crate) fn tree(
+    rt: &impl Output,
     line: &[u8],
     at: usize,
     head: &[u64],
@@ -49,12 +52,13 @@ pub(crate) fn tree(
     if !text::ended(line, at) {
         return output::malformed(out, to);
     }
-    let free = console::output::flush(out, to);
+    let free = console::output::flush(rt, out, to);
     console::tree::tree(head, instants, poses, out, free)
 }
 
 // `dot`
 pub(crate) fn dot(
+    rt: &impl Output,
     line: &[u8],
     at: usize,
     head: &[u64],
@@ -66,6 +70,6 @@ pub(crate) fn dot(
     if !text::ended(line, at) {
         return output::malformed(out, to);
     }
-    let free = console::output::flush(out, to);
+    let free = console::output::flush(rt, out, to);
     console::dot::dot(head, instants, poses, out, free)
 }

@@ -1,6 +1,7 @@
 // The operations on the store in the three slices that are lent.
 use super::operands::{Added, Frames, Query, Wipe};
 use super::{maps, operands, output, people};
+use console::output::Output;
 use text::{Float, Number};
 
 // `add CHILD PARENT KIND INSTANT P`
@@ -96,31 +97,28 @@ fn common(
 }
 
 // A name and the words of a slice.
-fn all_words(name: &[u8], words: &[u64], out: &mut [u8], at: usize) -> usize {
+fn all_words(rt: &impl Output, name: &[u8], words: &[u64], out: &mut [u8], at: usize) -> usize {
     let mut to = text::write_bytes(out, at, name);
-    let mut i = 0;
-    while i < words.len() {
-        let free = console::output::spare(out, to);
-        to = answers::write_number_word(out, free, words[i]);
-        i += 1;
+    for word in words {
+        let free = console::output::spare(rt, out, to);
+        to = answers::write_number_word(out, free, *word);
     }
     to
 }
 
 // A name and the floats of a slice.
-fn all_floats(name: &[u8], floats: &[f64], out: &mut [u8], at: usize) -> usize {
+fn all_floats(rt: &impl Output, name: &[u8], floats: &[f64], out: &mut [u8], at: usize) -> usize {
     let mut to = text::write_bytes(out, at, name);
-    let mut i = 0;
-    while i < floats.len() {
-        let free = console::output::spare(out, to);
-        to = answers::write_float_word(out, free, floats[i]);
-        i += 1;
+    for float in floats {
+        let free = console::output::spare(rt, out, to);
+        to = answers::write_float_word(out, free, *float);
     }
     to
 }
 
 // `words`
 fn words(
+    rt: &impl Output,
     line: &[u8],
     at: usize,
     head: &[u64],
@@ -132,11 +130,11 @@ fn words(
     if !text::ended(line, at) {
         return output::malformed(out, to);
     }
-    let first = all_words(b"head", head, out, to);
+    let first = all_words(rt, b"head", head, out, to);
     let second = console::output::line_end(out, first);
-    let third = all_words(b"instants", instants, out, second);
+    let third = all_words(rt, b"instants", instants, out, second);
     let fourth = console::output::line_end(out, third);
-    all_floats(b"poses", poses, out, fourth)
+    all_floats(rt, b"poses", poses, out, fourth)
 }
 
 // `I N`: writes one word, and says whether there is one.
@@ -188,6 +186,7 @@ fn set(line: &[u8], at: usize, head: &mut [u64], instants: &mut [u64], poses: &m
 
 // The answer to a line that asks for words, or for none.
 fn answer_words(
+    rt: &impl Output,
     line: &[u8],
     head: &[u64],
     instants: &[u64],
@@ -198,13 +197,14 @@ fn answer_words(
 ) -> usize {
     let at = operands::behind(line, 0, b"words");
     if at > 0 {
-        return words(line, at, head, instants, poses, out, to);
+        return words(rt, line, at, head, instants, poses, out, to);
     }
     maps::answer(line, map, out, to)
 }
 
 // The answer to a line that asks for lines for people, or for words, or for none.
 fn answer_people(
+    rt: &impl Output,
     line: &[u8],
     head: &[u64],
     instants: &[u64],
@@ -219,21 +219,22 @@ fn answer_people(
     }
     let path = operands::behind(line, 0, b"why");
     if path > 0 {
-        return people::why(line, path, head, instants, poses, out, to);
+        return people::why(rt, line, path, head, instants, poses, out, to);
     }
     let picture = operands::behind(line, 0, b"tree");
     if picture > 0 {
-        return people::tree(line, picture, head, instants, poses, out, to);
+        return people::tree(rt, line, picture, head, instants, poses, out, to);
     }
     let graph = operands::behind(line, 0, b"dot");
     if graph > 0 {
-        return people::dot(line, graph, head, instants, poses, out, to);
+        return people::dot(rt, line, graph, head, instants, poses, out, to);
     }
-    answer_words(line, head, instants, poses, map, out, to)
+    answer_words(rt, line, head, instants, poses, map, out, to)
 }
 
 // The answer to a line that changes nothing.
 fn answer_query(
+    rt: &impl Output,
     line: &[u8],
     head: &[u64],
     instants: &[u64],
@@ -250,11 +251,12 @@ fn answer_query(
     if frames > 0 {
         return common(line, frames, head, instants, poses, out, to);
     }
-    answer_people(line, head, instants, poses, map, out, to)
+    answer_people(rt, line, head, instants, poses, map, out, to)
 }
 
 // The answer to a line that changes no sample by the registry.
 fn answer_set(
+    rt: &impl Output,
     line: &[u8],
     head: &mut [u64],
     instants: &mut [u64],
@@ -268,11 +270,12 @@ fn answer_set(
         let written = set(line, at, head, instants, poses);
         return output::done_if(out, to, written);
     }
-    answer_query(line, head, instants, poses, map, out, to)
+    answer_query(rt, line, head, instants, poses, map, out, to)
 }
 
 // The answer to a line, with these slices lent.
 pub(crate) fn answer(
+    rt: &impl Output,
     line: &[u8],
     head: &mut [u64],
     instants: &mut [u64],
@@ -293,5 +296,5 @@ pub(crate) fn answer(
     if loaded > 0 {
         return load(line, loaded, head, instants, poses, map, out, to);
     }
-    answer_set(line, head, instants, poses, map, out, to)
+    answer_set(rt, line, head, instants, poses, map, out, to)
 }
