@@ -1,5 +1,5 @@
 -- The edges of a tree from a number on: the next one that is read, and those behind it.
-use Rattle.std.proofs.Common.{◌≡◌, ℕ, ◌+◌, ◌<◌, ◌≤◌, true, false, leb, [], ◌∷◌, length, sym, refl, ap, ◌∙◌, arith, le-leb, leb-false, leb-true}
+use Rattle.std.proofs.Common.{◌≡◌, ℕ, ◌+◌, ◌<◌, ◌≤◌, true, false, leb, [], ◌∷◌, length, sym, refl, ap, subst, ◌∙◌, arith, le-leb, leb-false, leb-true}
 use mathlib.Core.Option.{Option, none, some}
 use mathlib.Core.List.{head?}
 use borrow.Author.Tests.{lt-leb}
@@ -32,7 +32,8 @@ first_kept (y ∷ t) r f x q = both (leb f y.0) here (there (first_kept t r.1 f 
     here e =
         let l = leb-true f y.0 e in
         let p : y ≡ x = cc (rw e at q) in
-        rw (e, ← p, lt-leb (y.0 + 1) y.0 (omega arith), above y.0 f t r.0 (omega arith), above y.0 (y.0 + 1) t r.0 (omega arith)) refl
+        subst (λ (z : ℕ × Edge). keep (leb f) (y ∷ t) ≡ z ∷ keep (leb (z.0 + 1)) (y ∷ t)) p
+        (rw (e, lt-leb (y.0 + 1) y.0 (omega arith)) (ap {B = Tree} (λ u. y ∷ u) (above y.0 f t r.0 (omega arith) ∙ sym (above y.0 (y.0 + 1) t r.0 (omega arith)))))
 
     there : (edge_from t f ≡ some x → keep (leb f) t ≡ x ∷ keep (leb (x.0 + 1)) t) → leb f y.0 ≡ false → keep (leb f) (y ∷ t) ≡ x ∷ keep (leb (x.0 + 1)) (y ∷ t)
     there rest e =

@@ -29,11 +29,11 @@ cond_fits b x y h k = both b (λ e. rw e h) (λ e. rw e k)
 abbrev parent_fits : ℕ × Edge → Bool
 parent_fits x = ltb x.1.parent (2 ^ 32)
 
-lowest_of : (t : Tree) (from : ℕ) (o : Option ℕ) (xs : Tree) → Fits o → all parent_fits xs ≡ true → Fits (lowest_root t from o xs)
-lowest_of t from o [] h a = h
-lowest_of t from o (x ∷ xs) h a =
+lowest_of : (t : Tree) (from : ℕ) (xs : Tree) (o : Option ℕ) → Fits o → all parent_fits xs ≡ true → Fits (lowest_root t from o xs)
+lowest_of t from [] o h a = h
+lowest_of t from (x ∷ xs) o h a =
     let p = x.1.parent in
-    lowest_of t from _ xs
+    lowest_of t from xs _
     (cond_fits (leb from p && is_root t p) (lower o p) o (lower_fits o p h (ltb-true p (2 ^ 32) (and_left (parent_fits x) (all parent_fits xs) a))) h)
     (and_right (parent_fits x) (all parent_fits xs) a)
 
@@ -41,7 +41,7 @@ lowest_of t from o (x ∷ xs) h a =
 pub lowest_fits : (s : Store) → SoundStore s → (from f : ℕ) → lowest_root (tree_of s) from none (tree_of s) ≡ some f → f < 2 ^ 32
 lowest_fits s ok from =
     let t = tree_of s in
-    lowest_of t from none t (λ f q. absurd (none_some q))
+    lowest_of t from t none (λ f q. absurd (none_some q))
     ((all_get parent_fits t ((rising_is t).0 (tree_rises s ok))).1 (λ f e q. lt-ltb e.parent (2 ^ 32) (parent_fits_lem s ok f e q)))
 
 -- ---- the roots from a number on, of which k are written
