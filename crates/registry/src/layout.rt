@@ -341,12 +341,12 @@ pub(crate) fn wipe_row(head: &mut [u64], instants: &mut [u64], poses: &mut [f64]
     let first = instants_length(r, width);
     let float = poses_length(r, width);
     let floats = row_floats(width);
-    let held = remove_before::remove_before(
+    let left = remove_before::remove_before(
         &mut instants[first..first + width],
         &mut poses[float..float + floats],
         kind,
         count,
         t,
     );
-    set_count(head, r, held);
+    set_count(head, r, left);
 }

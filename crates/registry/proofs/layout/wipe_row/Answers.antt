@@ -47,8 +47,8 @@ slice_bounds-remove_before-end-2 c =
     let ends : Ends (store) c.args.r c.capacity-width.result = part_ends (store) c.args.r c.requires.row.part c.capacity-width.result c.capacity-width.ensures in
     omega (arith, ends)
 
-pub remove_before-held-requires : goal.remove_before-held-requires
-remove_before-held-requires c =
+pub remove_before-left-requires : goal.remove_before-left-requires
+remove_before-left-requires c =
     let store : Store = let a = c.args in store_of a.head.now a.instants.now a.poses.now in
     let cut : Cut (store) c.args.r c.capacity-width.result c.instants_length-first.result c.poses_length-float.result c.row_floats-floats.result = record {
       wide = c.capacity-width.ensures;
@@ -69,4 +69,4 @@ returns c =
     } in
     let a = c.args in
     row_wiped store a.r c.requires cut a.t _ _ _ _ _ _
-    c.row_kind-kind.ensures c.count_at-count.ensures c.set_count.ensures c.remove_before-held.ensures
+    c.row_kind-kind.ensures c.count_at-count.ensures c.set_count.ensures c.remove_before-left.ensures
