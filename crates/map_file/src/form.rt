@@ -23,6 +23,9 @@ enum End {
 // The mark, the version and the count.
 pub const HEAD_BYTES: usize = 7;
 
+// The most bytes that a name has.
+const LONGEST_NAME: usize = 32;
+
 // A name's length byte of 1 to 32 and that many bytes.
 fn name_end(map: &[u8], at: usize) -> End
     ensures { end_read result ≡ end_of map.now (name_from (drop at map.now)) }
@@ -34,7 +37,7 @@ fn name_end(map: &[u8], at: usize) -> End
     if count < 1 {
         return End::Nowhere;
     }
-    if 32 < count {
+    if LONGEST_NAME < count {
         return End::Nowhere;
     }
     if map.len() - at <= count {

@@ -13,11 +13,11 @@ overflow_cast-count c = Fits-8_64 (c.type_inv.map _)
 pub returns-then-count-lt1 : goal.returns-then-count-lt1
 returns-then-count-lt1 c = let a = c.args in name_empty a.map.now a.at (omega arith) c.if-count-lt1.true
 
-pub returns-then-count-gt32 : goal.returns-then-count-gt32
-returns-then-count-gt32 c = let a = c.args in name_long a.map.now a.at (omega arith) c.if-count-lt1.false c.if-count-gt32.true
+pub returns-then-count-gt-LONGEST_NAME : goal.returns-then-count-gt-LONGEST_NAME
+returns-then-count-gt-LONGEST_NAME c = let a = c.args in name_long a.map.now a.at (omega arith) c.if-count-lt1.false c.if-count-gt-LONGEST_NAME.true
 
 pub returns-then-map-at-2 : goal.returns-then-map-at-2
-returns-then-map-at-2 c = let a = c.args in name_cut a.map.now a.at (omega arith) c.if-count-lt1.false c.if-count-gt32.false c.if-map-at-2.true
+returns-then-map-at-2 c = let a = c.args in name_cut a.map.now a.at (omega arith) c.if-count-lt1.false c.if-count-gt-LONGEST_NAME.false c.if-map-at-2.true
 
 pub returns : goal.returns
-returns c = let a = c.args in name_ends a.map.now a.at (omega arith) c.if-count-lt1.false c.if-count-gt32.false c.if-map-at-2.false
+returns c = let a = c.args in name_ends a.map.now a.at (omega arith) c.if-count-lt1.false c.if-count-gt-LONGEST_NAME.false c.if-map-at-2.false
