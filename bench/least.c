@@ -2,7 +2,7 @@
  * 16 samples. Other work on the machine can only make a round longer, so the least tells small differences that the
  * quartiles of bench/run do not. It takes the header and the library of any version:
  *
- *     gcc -O2 -I TREE/include bench/least.c TREE/target/staticlib/libtransforms_c.a -lm -o target/least && target/least
+ *     gcc -O2 -I TREE/include bench/least.c TREE/crates/transforms_c/out/libtransforms_c.a -lm -o target/least && target/least
  */
 #include "transforms.h"
 #include <math.h>

@@ -7,9 +7,8 @@ A definition, lemma, field or constructor of crates/*/specs and crates/*/proofs 
 or dashes gets them as underscores: poseOf is pose_of, held-lt is held_lt. A lemma whose name would be another's
 gets _lem: the lemma on-tree about onTree is on_tree_lem. A name that a file takes from a library stays, and so do
 the names of goals, functions of src/, strings, inputs and outputs. Two names that still fall together in one file
-are printed. The edits below must-fail/ and edits/ are respelled as the file that they name.
+are printed. respell_edits.py brings the wrong programs after it.
 """
-import collections
 import glob
 import re
 import sys
@@ -18,7 +17,6 @@ WORD = r"[^\W\d][\w'₀-₉-]*"
 TOKEN = re.compile(r"(?<![\w'₀-₉-])" + WORD)
 HEAD = re.compile(r"^(\s*)(?:(?:pub|abbrev|unfoldable|ruleset)\s+)*((?:%s\s+)*%s)\s*:(?=\s|$)" % (WORD, WORD))
 USE = re.compile(r"^(?:pub |ghost )?use ([\w.·'-]+?)(?:\.\{(.*)\}| as (\S+))?;?$")
-OWN = re.compile(r"Rattle\.(?:%s)\.")
 
 
 def snake(name):
