@@ -1,6 +1,6 @@
 -- The text of a reply, as texts that are written one behind the other.
 use Rattle.std.specs.Prelude.{ℕ, List, [], ◌∷◌, ◌++◌, map, Float}
-use Rattle.std.proofs.Math.Option.{Option, none, some}
+use Rattle.std.specs.Prelude.{Option, None, Some}
 use Rattle.time.specs.Reply.{Reply, Carried, answer, refusal, nothing, norm, frame, hop}
 use Rattle.geometry.specs.declared.vector3.Vector3.{Vector3}
 use Rattle.geometry.specs.declared.quaternion.Quaternion.{Quaternion}
@@ -32,8 +32,8 @@ pose_texts p = (112 ∷ 111 ∷ 115 ∷ 101 ∷ []) ∷ (translation_texts p.tra
 
 -- the child and the range, or ` none`
 abbrev pub hop_texts : ℕ → Option (ℕ × ℕ) → List (List ℕ)
-hop_texts child none = number_word child ++ ((32 ∷ 110 ∷ 111 ∷ 110 ∷ 101 ∷ []) ∷ [])
-hop_texts child (some r) = number_word child ++ (number_word r.0 ++ number_word r.1)
+hop_texts child None = number_word child ++ ((32 ∷ 110 ∷ 111 ∷ 110 ∷ 101 ∷ []) ∷ [])
+hop_texts child (Some r) = number_word child ++ (number_word r.0 ++ number_word r.1)
 
 abbrev pub carried_texts : Carried → List (List ℕ)
 carried_texts nothing = []
@@ -68,17 +68,17 @@ none_word = 110 ∷ 111 ∷ 110 ∷ 101 ∷ []
 
 -- what a load replies; a record's refusal behind `record` and its number
 abbrev pub load_texts : Option ℕ → Reply Value → List (List ℕ)
-load_texts none r = reply_texts r
-load_texts (some n) r = (114 ∷ 101 ∷ 99 ∷ 111 ∷ 114 ∷ 100 ∷ []) ∷ (number_word n ++ ((32 ∷ []) ∷ reply_texts r))
+load_texts None r = reply_texts r
+load_texts (Some n) r = (114 ∷ 101 ∷ 99 ∷ 111 ∷ 114 ∷ 100 ∷ []) ∷ (number_word n ++ ((32 ∷ []) ∷ reply_texts r))
 
 -- `frame` and the number, `none`, or the refusal
 abbrev pub frame_texts : Reply (Option ℕ) → List (List ℕ)
-frame_texts (answer (some k)) = (102 ∷ 114 ∷ 97 ∷ 109 ∷ 101 ∷ []) ∷ number_word k
-frame_texts (answer none) = none_word ∷ []
+frame_texts (answer (Some k)) = (102 ∷ 114 ∷ 97 ∷ 109 ∷ 101 ∷ []) ∷ number_word k
+frame_texts (answer None) = none_word ∷ []
 frame_texts (refusal k c) = refusal_texts k c
 
 -- `name` and its bytes, two digits each, `none`, or the refusal
 abbrev pub name_texts : Reply (Option (List ℕ)) → List (List ℕ)
-name_texts (answer (some name)) = (110 ∷ 97 ∷ 109 ∷ 101 ∷ 32 ∷ []) ∷ map byte_text name
-name_texts (answer none) = none_word ∷ []
+name_texts (answer (Some name)) = (110 ∷ 97 ∷ 109 ∷ 101 ∷ 32 ∷ []) ∷ map byte_text name
+name_texts (answer None) = none_word ∷ []
 name_texts (refusal k c) = refusal_texts k c

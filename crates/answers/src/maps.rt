@@ -1,7 +1,7 @@
 // The text of what a load and the book of names answer, written into a lent buffer at a place. The answer is the
 // next place.
 ghost use Rattle.std.specs.Prelude.{◌≡◌, ◌∷◌, [], map};
-ghost use Rattle.std.proofs.Math.Option.{some};
+ghost use Rattle.std.specs.Prelude.{Some};
 ghost use Rattle.time.specs.Reply.{answer as Reply·answer, nothing};
 ghost use Rattle.text.specs.Writing.{byte_text, written_all};
 ghost use Rattle.registry.specs.Answers.{reply_of};
@@ -35,7 +35,7 @@ fn write_map_form(out: &mut [u8], at: usize) -> usize
 }
 
 fn write_record(out: &mut [u8], at: usize, n: u32, refused: Answer) -> usize
-    ensures { (result, out.new) ≡ written_all out.old at (load_texts (some n) (reply_of refused)) }
+    ensures { (result, out.new) ≡ written_all out.old at (load_texts (Some n) (reply_of refused)) }
 {
     let first = text::write_bytes(out, at, b"record");
     let second = write::write_number_word(out, first, n as u64);
@@ -54,7 +54,7 @@ pub fn write_loaded(out: &mut [u8], at: usize, loaded: Loaded) -> usize
 }
 
 fn write_number(out: &mut [u8], at: usize, frame: u32) -> usize
-    ensures { (result, out.new) ≡ written_all out.old at (frame_texts (Reply·answer (some frame))) }
+    ensures { (result, out.new) ≡ written_all out.old at (frame_texts (Reply·answer (Some frame))) }
 {
     let next = text::write_bytes(out, at, b"frame");
     write::write_number_word(out, next, frame as u64)
@@ -85,7 +85,7 @@ fn write_digits(out: &mut [u8], at: usize, bytes: &[u8]) -> usize
 }
 
 fn write_part(out: &mut [u8], at: usize, name: &[u8]) -> usize
-    ensures { (result, out.new) ≡ written_all out.old at (name_texts (Reply·answer (some name.now))) }
+    ensures { (result, out.new) ≡ written_all out.old at (name_texts (Reply·answer (Some name.now))) }
 {
     let next = text::write_bytes(out, at, b"name ");
     write_digits(out, next, name)

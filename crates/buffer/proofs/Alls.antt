@@ -3,7 +3,7 @@ use Prim.Native.Nat.{ℕ, zero, suc, ◌<◌}
 use mathlib.Core.Path.{◌≡◌, refl, sym, ap, ◌∙◌}
 use mathlib.Core.Logic.{◌↔◌}
 use mathlib.Core.Bool.{Bool, true, ◌&&◌, and_assoc}
-use mathlib.Core.Option.{some}
+use Rattle.std.specs.Prelude.{Some}
 use mathlib.Core.List.{List, [], ◌∷◌, ◌++◌}
 use native.Mathlib.Omega.{arith}
 use lib.ListN.{length, get_or, replicate}
@@ -45,31 +45,31 @@ module _ {A : Type 0} where
       of_each (x ∷ xs) h = and_both _ _ (h 0 (omega arith)) (of_each xs (λ i l. h (suc i) (omega arith)))
 
 module _ {A : Type 0} (test : ℕ × A → Bool) where
-  held_passes : (m : Map A) → all test m ≡ true → (k : ℕ) (v : A) → get m k ≡ some v → test (k, v) ≡ true
+  held_passes : (m : Map A) → all test m ≡ true → (k : ℕ) (v : A) → get m k ≡ Some v → test (k, v) ≡ true
   held_passes [] h k v g = absurd (none_some g)
   held_passes (x ∷ m) h k v g =
       both (eqb k x.0)
       (λ e.
-      let w : some x.1 ≡ some v = rw e at g in
+      let w : Some x.1 ≡ Some v = rw e at g in
       let q : (k, v) ≡ x = λ i. (eqb-true k x.0 e i, sym (some_is w) i) in
       ap test q ∙ and_left (test x) _ h)
       (λ e. held_passes m (and_right (test x) _ h) k v (rw e at g))
     where
-      some_is : some x.1 ≡ some v → x.1 ≡ v
+      some_is : Some x.1 ≡ Some v → x.1 ≡ v
       some_is w = cc w
 
-  passes_held : (m : Map A) → Rising m → ((k : ℕ) (v : A) → get m k ≡ some v → test (k, v) ≡ true) → all test m ≡ true
+  passes_held : (m : Map A) → Rising m → ((k : ℕ) (v : A) → get m k ≡ Some v → test (k, v) ≡ true) → all test m ≡ true
   passes_held [] r h = refl
   passes_held (x ∷ m) r h = and_both _ _ (h x.0 x.1 (get_head x m)) (passes_held m r.1 below)
     where
-      below : (k : ℕ) (v : A) → get m k ≡ some v → test (k, v) ≡ true
+      below : (k : ℕ) (v : A) → get m k ≡ Some v → test (k, v) ≡ true
       below k v g =
           both (eqb k x.0)
           (λ e. absurd (none_some (sym (get_floor x.0 k m r.0 (let q = eqb-true k x.0 e in omega arith)) ∙ g)))
           (λ e. h k v (rw e g))
 
   -- on a rising map `all` says that each value got passes
-  pub all_get : (m : Map A) → Rising m → (all test m ≡ true) ↔ ((k : ℕ) (v : A) → get m k ≡ some v → test (k, v) ≡ true)
+  pub all_get : (m : Map A) → Rising m → (all test m ≡ true) ↔ ((k : ℕ) (v : A) → get m k ≡ Some v → test (k, v) ≡ true)
   all_get m r = (held_passes m, passes_held m r)
 
   pub all_put : (k : ℕ) (v : A) (m : Map A) → test (k, v) ≡ true → all test m ≡ true → all test (put k v m) ≡ true

@@ -2,7 +2,7 @@
 use Prim.Native.Nat.{ℕ, ◌<◌, ◌≤◌}
 use mathlib.Core.Path.{◌≡◌, refl, sym}
 use mathlib.Core.Bool.{Bool, true, false, ◌&&◌}
-use mathlib.Core.Option.{none, some}
+use Rattle.std.specs.Prelude.{None, Some}
 use native.Mathlib.Omega.{arith}
 use lib.Dec.{eqb, ltb}
 use borrow.Author.Tests.{ltb-true, ltb-false, eqb-true, eqb-false}
@@ -12,7 +12,7 @@ pub both : {C : Type 0} (b : Bool) → (b ≡ true → C) → (b ≡ false → C
 both true f g = f refl
 both false f g = g refl
 
-pub none_some : {A : Type 0} {a : A} → none ≡ some a → ⊥
+pub none_some : {A : Type 0} {a : A} → None ≡ Some a → ⊥
 none_some z = let w : ◌≡◌ {A = ℕ} 0 1 = cc in omega arith
 
 pub false_true : ◌≡◌ {A = Bool} false true → ⊥

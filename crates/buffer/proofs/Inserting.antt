@@ -2,7 +2,7 @@
 use Prim.Native.Nat.{ℕ, suc, ◌+◌, ◌-◌, ◌*◌, ◌≤◌, ◌<◌, max}
 use mathlib.Core.Path.{◌≡◌, refl, sym, ap, ◌∙◌, fun_ext}
 use mathlib.Core.Bool.{Bool, cond}
-use mathlib.Core.Option.{Option, none}
+use Rattle.std.specs.Prelude.{Option, None}
 use mathlib.Core.List.{List, [], ◌∷◌, ◌++◌}
 use native.Mathlib.Nat.{one-mul, le_of_suc-le-suc}
 use native.Mathlib.Numerals.{add-one}
@@ -73,10 +73,10 @@ roomy ts fs m h = rw (le-ltb (length ts) (length m) h)
 full : (ts : List ℕ) (fs : List Float) (m : Samples) → length ts < length m → unless_full ts fs m ≡ outcome (refusal 17 nothing) ts fs
 full ts fs m h = rw (lt-ltb (length ts) (length m) h)
 
-insert_none : (t : ℕ) (p : Isometry) (m : Samples) → insert none t p m ≡ put t p m
+insert_none : (t : ℕ) (p : Isometry) (m : Samples) → insert None t p m ≡ put t p m
 insert_none t p m = keep_every (put t p m)
   where
-    keep_every : (s : Samples) → keep (survives none (newest (put t p m))) s ≡ s
+    keep_every : (s : Samples) → keep (survives None (newest (put t p m))) s ≡ s
     keep_every [] = refl
     keep_every (x ∷ s) = ap {B = Samples} (λ r. x ∷ r) (keep_every s)
 
@@ -131,14 +131,14 @@ module _ (n : ℕ) (ts : List ℕ) (fs : List Float) (row : Row n ts fs) (fit : 
     abbrev New : Type 0
     New = k < n → get_or ts k 0 ≡ t → ⊥
 
-    pub replaces : (p : Isometry) → k < n → get_or ts k 0 ≡ t → (gs : List Float) → gs ≡ replaced (7 * k) (floats p) fs → outcome (answer n) ts gs ≡ insert_row none t p n ts fs
+    pub replaces : (p : Isometry) → k < n → get_or ts k 0 ≡ t → (gs : List Float) → gs ≡ replaced (7 * k) (floats p) fs → outcome (answer n) ts gs ≡ insert_row None t p n ts fs
     unfolding insert_row
     replaces p h e gs g =
         let l : length held ≡ n = length_samples_of n ts fs in
         let f = row.fits in
         let at : cut t held < length held = rw (sym place_of, l) h in
         let key : get_or (keys held) k 0 ≡ t = key_at n ts fs (row_held n ts fs row) k h ∙ e in
-        let i : insert none t p held ≡ set held k (t, p) =
+        let i : insert None t p held ≡ set held k (t, p) =
         insert_none t p held
         ∙ put_held t p held rises at (ap (λ (j : ℕ). get_or (keys held) j 0) (sym place_of) ∙ key)
         ∙ ap (λ (j : ℕ). set held j (t, p)) (sym place_of) in
@@ -148,7 +148,7 @@ module _ (n : ℕ) (ts : List ℕ) (fs : List Float) (row : Row n ts fs) (fit : 
         g ∙ ap (replaced (7 * k) (floats p)) fs_are ∙ replaced_poses (length ts) n held l k t p h in
         (λ j. outcome (answer (c j)) (a j) (b j)) ∙ sym (ap (unless_full ts fs) i ∙ roomy ts fs (set held k (t, p)) (omega arith))
 
-    put_is : (p : Isometry) → New → insert none t p held ≡ take k held ++ (t, p) ∷ drop k held
+    put_is : (p : Isometry) → New → insert None t p held ≡ take k held ++ (t, p) ∷ drop k held
     put_is p ne =
         insert_none t p held
         ∙ put_new t p held rises (λ h e. let g : k < n = omega (arith, place_of, length_samples_of n ts fs) in ne g (sym (key_at n ts fs (row_held n ts fs row) k g) ∙ ap (λ (j : ℕ). get_or (keys held) j 0) place_of ∙ e))
@@ -160,7 +160,7 @@ module _ (n : ℕ) (ts : List ℕ) (fs : List Float) (row : Row n ts fs) (fit : 
         let h : k ≤ n = at_most in
         simp (length-append, length-take, length-drop) (omega arith)
 
-    pub refuses : (p : Isometry) → n ≡ length ts → New → outcome (refusal 17 nothing) ts fs ≡ insert_row none t p n ts fs
+    pub refuses : (p : Isometry) → n ≡ length ts → New → outcome (refusal 17 nothing) ts fs ≡ insert_row None t p n ts fs
     unfolding insert_row
     refuses p f ne =
         let s : Samples = take k held ++ (t, p) ∷ drop k held in
@@ -168,7 +168,7 @@ module _ (n : ℕ) (ts : List ℕ) (fs : List Float) (row : Row n ts fs) (fit : 
 
     pub inserts : (p : Isometry) → n < length ts → New
         → (us : List ℕ) (gs : List Float) → us ≡ inserted k n (t ∷ []) ts → gs ≡ inserted (7 * k) (7 * n) (floats p) fs
-        → outcome (answer (n + 1)) us gs ≡ insert_row none t p n ts fs
+        → outcome (answer (n + 1)) us gs ≡ insert_row None t p n ts fs
     unfolding insert_row
     inserts p f ne us gs u g =
         let s : Samples = take k held ++ (t, p) ∷ drop k held in
@@ -194,7 +194,7 @@ keep_whole ok (x ∷ m) h =
 pub record Expired (age : Option ℕ) (t : ℕ) (p : Isometry) (n : ℕ) (ts : List ℕ) (fs : List Float) (since r : ℕ) (us : List ℕ) (gs : List Float) : Type 0 where
   pub row : Row r us gs
   pub too_old : t < since → outcome (answer r) us gs ≡ insert_row age t p n ts fs
-  pub held_too : since ≤ t → insert_row none t p r us gs ≡ insert_row age t p n ts fs
+  pub held_too : since ≤ t → insert_row None t p r us gs ≡ insert_row age t p n ts fs
 
 module _ (n : ℕ) (ts : List ℕ) (fs : List Float) (row : Row n ts fs) (fit : FloatsFit fs)
     (age : Option ℕ) (t : ℕ) (p : Isometry) (latest since : ℕ) (late : latest ≡ max t (newest (samples_of n ts fs)))
@@ -256,12 +256,12 @@ module _ (n : ℕ) (ts : List ℕ) (fs : List Float) (row : Row n ts fs) (fit : 
         roomy us gs m (omega arith) ∙ ap (λ (capacity : ℕ). holding capacity m) l ∙ sym (roomy ts fs m room))
 
     -- it is put in beside what is left
-    put_beside : since ≤ t → insert_row none t p r us gs ≡ insert_row age t p n ts fs
+    put_beside : since ≤ t → insert_row None t p r us gs ≡ insert_row age t p n ts fs
     unfolding insert_row
     put_beside h =
         let rises : Rising all_of = rising_held n ts fs (row_held n ts fs row) in
         let back : samples_of r us gs ≡ kept_of = (λ i. samples_of (count_is i) (us_are i) (gs_are i)) ∙ read_back (length ts) kept_of in
-        ap (λ (m : Samples). unless_full us gs (insert none t p m)) back
+        ap (λ (m : Samples). unless_full us gs (insert None t p m)) back
         ∙ ap (unless_full us gs) (insert_none t p kept_of)
         ∙ same_room (put t p kept_of) (length_put_le t p kept_of)
         ∙ sym (ap (unless_full ts fs) (insert_is ∙ keep_put (leb since) t p all_of rises (le-leb since t h)))

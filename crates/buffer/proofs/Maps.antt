@@ -3,7 +3,7 @@ use Prim.Native.Nat.{ℕ, zero, suc, ◌<◌, ◌≤◌}
 use mathlib.Core.Path.{◌≡◌, refl, sym, ap, ◌∙◌}
 use mathlib.Core.Logic.{◌↔◌}
 use mathlib.Core.Bool.{Bool, true, false, cond, ◌&&◌}
-use mathlib.Core.Option.{none, some}
+use Rattle.std.specs.Prelude.{None, Some}
 use mathlib.Core.List.{[], ◌∷◌}
 use native.Mathlib.Omega.{arith}
 use lib.ListN.{length, get_or}
@@ -85,15 +85,15 @@ module _ {A : Type 0} where
   -- by index
   -- ---- get
 
-  pub get_floor : (k j : ℕ) (m : Map A) → Floor k m → j ≤ k → get m j ≡ none
+  pub get_floor : (k j : ℕ) (m : Map A) → Floor k m → j ≤ k → get m j ≡ None
   get_floor k j [] f h = refl
   get_floor k j (x ∷ m) f h = rw (ne_eqb j x.0 (λ e. let f₀ = f.0 in omega arith)) (get_floor k j m f.1 h)
 
-  pub get_put_same : (j : ℕ) (v : A) (m : Map A) → get (put j v m) j ≡ some v
+  pub get_put_same : (j : ℕ) (v : A) (m : Map A) → get (put j v m) j ≡ Some v
   get_put_same j v [] = rw (eq-eqb j j refl)
   get_put_same j v (x ∷ m) = go (tri j x.0) (get_put_same j v m)
     where
-      go : Tri j x.0 → get (put j v m) j ≡ some v → get (put j v (x ∷ m)) j ≡ some v
+      go : Tri j x.0 → get (put j v m) j ≡ Some v → get (put j v (x ∷ m)) j ≡ Some v
       go (less l) ih = rw (lt-ltb j x.0 l, eq-eqb j j refl)
       go (same e) ih = rw (le-ltb j x.0 (omega arith), eq-eqb j x.0 e, eq-eqb j j refl)
       go (more l) ih = rw (le-ltb j x.0 (omega arith), ne_eqb j x.0 (λ e. omega arith), ne_eqb j x.0 (λ e. omega arith)) ih
@@ -105,36 +105,36 @@ module _ {A : Type 0} where
       go : Tri j x.0 → get (put j v m) k ≡ get m k → get (put j v (x ∷ m)) k ≡ get (x ∷ m) k
       go (less l) ih = rw (lt-ltb j x.0 l, ne_eqb k j n)
       go (same e) ih = rw (le-ltb j x.0 (omega arith), eq-eqb j x.0 e, ne_eqb k j n, ne_eqb k x.0 (λ q. n (q ∙ sym e)))
-      go (more l) ih = rw (le-ltb j x.0 (omega arith), ne_eqb j x.0 (λ e. omega arith)) (ap (cond (eqb k x.0) (some x.1)) ih)
+      go (more l) ih = rw (le-ltb j x.0 (omega arith), ne_eqb j x.0 (λ e. omega arith)) (ap (cond (eqb k x.0) (Some x.1)) ih)
 
-  pub get_put : (j : ℕ) (v : A) (m : Map A) (k : ℕ) → get (put j v m) k ≡ cond (eqb j k) (some v) (get m k)
+  pub get_put : (j : ℕ) (v : A) (m : Map A) (k : ℕ) → get (put j v m) k ≡ cond (eqb j k) (Some v) (get m k)
   get_put j v m k =
       both (eqb j k)
       (λ e. rw (e, ← eqb-true j k e) (get_put_same j v m))
       (λ e. rw e (get_put_other j k v m (λ q. eqb-false j k e (sym q))))
 
-  pub get_keep : (ok : ℕ → Bool) (m : Map A) (k : ℕ) → get (keep ok m) k ≡ cond (ok k) (get m k) none
+  pub get_keep : (ok : ℕ → Bool) (m : Map A) (k : ℕ) → get (keep ok m) k ≡ cond (ok k) (get m k) None
   get_keep ok [] k = both (ok k) (λ e. rw e) (λ e. rw e)
   get_keep ok (x ∷ m) k = go (ok x.0) refl (eqb k x.0) refl (get_keep ok m k)
     where
       go : (b : Bool) → ok x.0 ≡ b → (e : Bool) → eqb k x.0 ≡ e
-          → get (keep ok m) k ≡ cond (ok k) (get m k) none → get (keep ok (x ∷ m)) k ≡ cond (ok k) (get (x ∷ m) k) none
+          → get (keep ok m) k ≡ cond (ok k) (get m k) None → get (keep ok (x ∷ m)) k ≡ cond (ok k) (get (x ∷ m) k) None
       go true p true q ih = rw (p, q, ap ok (eqb-true k x.0 q) ∙ p)
       go true p false q ih = rw (p, q) ih
       go false p true q ih = let n = ap ok (eqb-true k x.0 q) ∙ p in rw (p, q) (ih ∙ rw n)
       go false p false q ih = rw (p, q) ih
 
-  pub get_here : (x : ℕ × A) (m : Map A) (k : ℕ) → k ≡ x.0 → get (x ∷ m) k ≡ some x.1
+  pub get_here : (x : ℕ × A) (m : Map A) (k : ℕ) → k ≡ x.0 → get (x ∷ m) k ≡ Some x.1
   get_here x m k e = rw (eq-eqb k x.0 e)
 
   pub get_there : (x : ℕ × A) (m : Map A) (k : ℕ) → (k ≡ x.0 → ⊥) → get (x ∷ m) k ≡ get m k
   get_there x m k n = rw (ne_eqb k x.0 n)
 
-  pub get_head : (x : ℕ × A) (m : Map A) → get (x ∷ m) x.0 ≡ some x.1
+  pub get_head : (x : ℕ × A) (m : Map A) → get (x ∷ m) x.0 ≡ Some x.1
   get_head x m = get_here x m x.0 refl
 
   -- by index
-  pub get_at : (m : Map A) (i : ℕ) (d : ℕ × A) → Rising m → i < length m → get m (get_or m i d).0 ≡ some (get_or m i d).1
+  pub get_at : (m : Map A) (i : ℕ) (d : ℕ × A) → Rising m → i < length m → get m (get_or m i d).0 ≡ Some (get_or m i d).1
   get_at [] i d r h = absurd (omega arith)
   get_at (x ∷ m) zero d r h = get_head x m
   get_at (x ∷ m) (suc i) d r h =
@@ -160,8 +160,8 @@ module _ {A : Type 0} where
       go (less l) ih = absurd (none_some (sym (rw (ne_eqb x.0 y.0 (λ e. omega arith)) (get_floor y.0 x.0 b rb.0 (omega arith))) ∙ sym (h x.0) ∙ get_head x a))
       go (more l) ih = absurd (none_some (sym (rw (ne_eqb y.0 x.0 (λ e. omega arith)) (get_floor x.0 y.0 a ra.0 (omega arith))) ∙ h y.0 ∙ get_head y b))
       go (same e) ih =
-          let there : get (y ∷ b) x.0 ≡ some y.1 = rw (eq-eqb x.0 y.0 e) in
-          let both_some : some x.1 ≡ some y.1 = sym (get_head x a) ∙ h x.0 ∙ there in
+          let there : get (y ∷ b) x.0 ≡ Some y.1 = rw (eq-eqb x.0 y.0 e) in
+          let both_some : Some x.1 ≡ Some y.1 = sym (get_head x a) ∙ h x.0 ∙ there in
           let values : x.1 ≡ y.1 = cc both_some in
           λ i. (e i, values i) ∷ ih (tails e) i
 
@@ -226,24 +226,24 @@ module _ {A : Type 0} where
 
   -- ---- how many
 
-  pub length_put_new : (k : ℕ) (v : A) (m : Map A) → get m k ≡ none → length (put k v m) ≡ suc (length m)
+  pub length_put_new : (k : ℕ) (v : A) (m : Map A) → get m k ≡ None → length (put k v m) ≡ suc (length m)
   length_put_new k v [] h = refl
   length_put_new k v (x ∷ m) h = go (tri k x.0) (length_put_new k v m)
     where
-      go : Tri k x.0 → (get m k ≡ none → length (put k v m) ≡ suc (length m)) → length (put k v (x ∷ m)) ≡ suc (suc (length m))
+      go : Tri k x.0 → (get m k ≡ None → length (put k v m) ≡ suc (length m)) → length (put k v (x ∷ m)) ≡ suc (suc (length m))
       go (less l) ih = rw (lt-ltb k x.0 l)
-      go (same e) ih = let z : some x.1 ≡ none = rw (eq-eqb k x.0 e) at h in cc
+      go (same e) ih = let z : Some x.1 ≡ None = rw (eq-eqb k x.0 e) at h in cc
       go (more l) ih =
           rw (le-ltb k x.0 (omega arith), ne_eqb k x.0 (λ e. omega arith))
           (ap suc (ih (rw (ne_eqb k x.0 (λ e. omega arith)) at h)))
 
-  pub length_put_held : (k : ℕ) (v w : A) (m : Map A) → Rising m → get m k ≡ some w → length (put k v m) ≡ length m
+  pub length_put_held : (k : ℕ) (v w : A) (m : Map A) → Rising m → get m k ≡ Some w → length (put k v m) ≡ length m
   length_put_held k v w [] r h = cc
   length_put_held k v w (x ∷ m) r h = go (tri k x.0) (length_put_held k v w m r.1)
     where
-      go : Tri k x.0 → (get m k ≡ some w → length (put k v m) ≡ length m) → length (put k v (x ∷ m)) ≡ suc (length m)
+      go : Tri k x.0 → (get m k ≡ Some w → length (put k v m) ≡ length m) → length (put k v (x ∷ m)) ≡ suc (length m)
       go (less l) ih =
-          let z : none ≡ some w = sym (get_floor x.0 k m r.0 (omega arith)) ∙ (rw (ne_eqb k x.0 (λ e. omega arith)) at h) in
+          let z : None ≡ Some w = sym (get_floor x.0 k m r.0 (omega arith)) ∙ (rw (ne_eqb k x.0 (λ e. omega arith)) at h) in
           cc
       go (same e) ih = rw (le-ltb k x.0 (omega arith), eq-eqb k x.0 e)
       go (more l) ih =

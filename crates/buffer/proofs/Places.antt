@@ -2,7 +2,7 @@
 use Prim.Native.Nat.{ℕ, zero, suc, ◌-◌, ◌≤◌, ◌<◌, zero-le, suc-le-suc}
 use mathlib.Core.Path.{◌≡◌, refl, sym, ap, ◌∙◌}
 use mathlib.Core.Bool.{true}
-use mathlib.Core.Option.{Option, some}
+use Rattle.std.specs.Prelude.{Option, Some}
 use mathlib.Core.List.{List, [], ◌∷◌, ◌++◌}
 use mathlib.Core.Logic.{⊎_elim}
 use native.Mathlib.Nat.{not-suc-le-zero, le_of_suc-le-suc, le_refl, le_of_lt, eq-or-lt_of_le}
@@ -162,7 +162,7 @@ module _ {A : Type 0} where
 
 module _ {A : Type 0} where
   -- the last of a list that is not empty
-  pub last_at : (l : List A) (k : ℕ) (d : A) → length l ≡ suc k → last? l ≡ some (get_or l k d)
+  pub last_at : (l : List A) (k : ℕ) (d : A) → length l ≡ suc k → last? l ≡ Some (get_or l k d)
   last_at [] k d e = absurd (omega arith)
   last_at (x ∷ []) zero d e = refl
   last_at (x ∷ []) (suc k) d e = absurd (omega arith)
@@ -193,6 +193,6 @@ module _ (n : ℕ) (ts : List ℕ) (fs : List Float) (held : Instants n ts) wher
   pub place_cut : (t k : ℕ) → k ≡ below t (take n ts) → k ≡ cut t (samples_of n ts fs)
   place_cut t k q = q ∙ ap (below t) (sym (held_instants n ts fs held.fits))
 
-pub range_held : (n : ℕ) (ts : List ℕ) (fs : List Float) → Instants n ts → 0 < n → range (samples_of n ts fs) ≡ some (get_or ts 0 0, get_or ts (n - 1) 0)
+pub range_held : (n : ℕ) (ts : List ℕ) (fs : List Float) → Instants n ts → 0 < n → range (samples_of n ts fs) ≡ Some (get_or ts 0 0, get_or ts (n - 1) 0)
 range_held zero ts fs held h = absurd (not-suc-le-zero h)
-range_held (suc k) ts fs held h = rw sub-one (ap {B = Option (ℕ × ℕ)} (λ b. some (get_or ts 0 0, b)) (newest_at (suc k) ts fs held k refl))
+range_held (suc k) ts fs held h = rw sub-one (ap {B = Option (ℕ × ℕ)} (λ b. Some (get_or ts 0 0, b)) (newest_at (suc k) ts fs held k refl))

@@ -2,7 +2,7 @@
 use Prim.Native.Nat.{ℕ, zero, suc, ◌+◌, ◌-◌, ◌*◌, ◌≤◌, ◌<◌}
 use mathlib.Core.Path.{◌≡◌, refl, sym, ap, ◌∙◌}
 use mathlib.Core.Bool.{Bool, true, false, ◌&&◌, and_assoc, and-false, and-true}
-use mathlib.Core.Option.{Option, none, some}
+use Rattle.std.specs.Prelude.{Option, None, Some}
 use mathlib.Core.List.{List, []}
 use native.Mathlib.Numerals.{sub-one}
 use native.Mathlib.Omega.{arith}
@@ -28,7 +28,7 @@ use Rattle.buffer.proofs.Places.{newest_at, rising_held}
 pub rising_words : (n : ℕ) (ts : List ℕ) (fs : List Float) → n ≤ length ts → rising (samples_of n ts fs) ≡ ascending (take n ts)
 rising_words n ts fs h = ap ascending (held_instants n ts fs h)
 
-pub all_survive : (n : ℕ) (ts : List ℕ) (fs : List Float) (k : ℕ) → all (λ x. survives none k x.0) (samples_of n ts fs) ≡ true
+pub all_survive : (n : ℕ) (ts : List ℕ) (fs : List Float) (k : ℕ) → all (λ x. survives None k x.0) (samples_of n ts fs) ≡ true
 all_survive zero ts fs k = refl
 all_survive (suc n) ts fs k = all_survive n (drop 1 ts) (drop 7 fs) k
 
@@ -48,9 +48,9 @@ age_test age first last h =
     (λ e. let l = leb-false (last - first) age e in e ∙ sym (lt-leb (last - age) first (omega arith)))
 
 pub fresh_words : (age n : ℕ) (ts : List ℕ) (fs : List Float) → Instants n ts → 0 < n → get_or ts 0 0 ≤ get_or ts (n - 1) 0
-    → leb (get_or ts (n - 1) 0 - get_or ts 0 0) age ≡ all (λ x. survives (some age) (newest (samples_of n ts fs)) x.0) (samples_of n ts fs)
+    → leb (get_or ts (n - 1) 0 - get_or ts 0 0) age ≡ all (λ x. survives (Some age) (newest (samples_of n ts fs)) x.0) (samples_of n ts fs)
 fresh_words age zero ts fs held h l = absurd (omega arith)
-fresh_words age (suc n) ts fs held h l = age_test age (get_or ts 0 0) (get_or ts (suc n - 1) 0) l ∙ rw sub-one (sym (first_decides (some age) n ts fs held))
+fresh_words age (suc n) ts fs held h l = age_test age (get_or ts 0 0) (get_or ts (suc n - 1) 0) l ∙ rw sub-one (sym (first_decides (Some age) n ts fs held))
 
 -- ---- the clause on instants
 

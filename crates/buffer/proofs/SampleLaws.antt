@@ -2,7 +2,7 @@
 use Prim.Native.Nat.{ℕ, suc, ◌<◌, ◌≤◌, ◌-◌, max}
 use mathlib.Core.Path.{◌≡◌, refl, sym, ap, ◌∙◌}
 use mathlib.Core.Bool.{Bool, true, false, cond, ◌&&◌}
-use mathlib.Core.Option.{Option, none, some}
+use Rattle.std.specs.Prelude.{Option, None, Some}
 use mathlib.Core.List.{[], ◌∷◌}
 use native.Mathlib.Omega.{arith}
 use lib.ListN.{length}
@@ -56,7 +56,7 @@ newest_keep ok (x ∷ m) h = go (tri x.0 (newest m)) (newest_keep ok m)
     go (more l) ih = top (omega arith)
 
 -- no instant held is above it
-pub newest_top : (m : Samples) (i : ℕ) (p : Isometry) → get m i ≡ some p → i ≤ newest m
+pub newest_top : (m : Samples) (i : ℕ) (p : Isometry) → get m i ≡ Some p → i ≤ newest m
 newest_top [] i p g = absurd (none_some g)
 newest_top (x ∷ m) i p g =
     both (eqb i x.0)
@@ -64,7 +64,7 @@ newest_top (x ∷ m) i p g =
     (λ e. let ih = newest_top m i p (rw e at g) in omega arith)
 
 -- of a rising map it is the last instant
-pub newest_last : (m : Samples) (x : ℕ × Isometry) → Rising m → last? m ≡ some x → newest m ≡ x.0
+pub newest_last : (m : Samples) (x : ℕ × Isometry) → Rising m → last? m ≡ Some x → newest m ≡ x.0
 newest_last [] x r h = absurd (none_some h)
 newest_last (y ∷ []) x r h =
     let q : y ≡ x = cc h in
@@ -73,7 +73,7 @@ newest_last (y ∷ []) x r h =
 newest_last (y ∷ z ∷ m) x r h = let ih = newest_last (z ∷ m) x r.1 h in let l = r.0.0 in omega arith
 
 -- and it is held
-pub newest_held : (x : ℕ × Isometry) (m : Samples) → Rising (x ∷ m) → (p : Isometry) × (get (x ∷ m) (newest (x ∷ m)) ≡ some p)
+pub newest_held : (x : ℕ × Isometry) (m : Samples) → Rising (x ∷ m) → (p : Isometry) × (get (x ∷ m) (newest (x ∷ m)) ≡ Some p)
 newest_held x [] r = (x.1, rw (eq-eqb (max x.0 0) x.0 (omega arith)))
 newest_held x (y ∷ m) r =
     let ih = newest_held y m r.1 in
@@ -83,7 +83,7 @@ newest_held x (y ∷ m) r =
     (ih.0, rw (ne_eqb (newest (x ∷ y ∷ m)) x.0 n) (ap (get (y ∷ m)) e ∙ ih.1))
 
 -- no instant held is below the first
-pub first_least : (x : ℕ × Isometry) (m : Samples) (i : ℕ) (p : Isometry) → Rising (x ∷ m) → get (x ∷ m) i ≡ some p → x.0 ≤ i
+pub first_least : (x : ℕ × Isometry) (m : Samples) (i : ℕ) (p : Isometry) → Rising (x ∷ m) → get (x ∷ m) i ≡ Some p → x.0 ≤ i
 first_least x m i p r g =
     both (leb x.0 i)
     (λ e. leb-true x.0 i e)
@@ -94,34 +94,34 @@ first_least x m i p r g =
 -- ---- which instants survive
 
 pub survives_self : (age : Option ℕ) (n : ℕ) → survives age n n ≡ true
-survives_self none n = refl
-survives_self (some a) n = le-leb (n - a) n (omega arith)
+survives_self None n = refl
+survives_self (Some a) n = le-leb (n - a) n (omega arith)
 
 pub survives_zero : (age : Option ℕ) (i : ℕ) → survives age 0 i ≡ true
-survives_zero none i = refl
-survives_zero (some a) i = le-leb (0 - a) i (omega arith)
+survives_zero None i = refl
+survives_zero (Some a) i = le-leb (0 - a) i (omega arith)
 
 -- what survives a newest instant survives an older one
 pub survives_down : (age : Option ℕ) (n k i : ℕ) → k ≤ n → survives age n i ≡ true → survives age k i ≡ true
-survives_down none n k i h e = refl
-survives_down (some a) n k i h e = let q = leb-true (n - a) i e in le-leb (k - a) i (omega arith)
+survives_down None n k i h e = refl
+survives_down (Some a) n k i h e = let q = leb-true (n - a) i e in le-leb (k - a) i (omega arith)
 
 -- what is dropped stays dropped for a later newest
 pub dropped_up : (age : Option ℕ) (n k i : ℕ) → n ≤ k → survives age n i ≡ false → survives age k i ≡ false
-dropped_up none n k i h e = e
-dropped_up (some a) n k i h e = let q = leb-false (n - a) i e in lt-leb (k - a) i (omega arith)
+dropped_up None n k i h e = e
+dropped_up (Some a) n k i h e = let q = leb-false (n - a) i e in lt-leb (k - a) i (omega arith)
 
 -- a later instant survives with an earlier one
 pub survives_up : (age : Option ℕ) (n i j : ℕ) → i ≤ j → survives age n i ≡ true → survives age n j ≡ true
-survives_up none n i j h e = refl
-survives_up (some a) n i j h e = let q = leb-true (n - a) i e in le-leb (n - a) j (omega arith)
+survives_up None n i j h e = refl
+survives_up (Some a) n i j h e = let q = leb-true (n - a) i e in le-leb (n - a) j (omega arith)
 
 -- ---- expiry
 
 pub newest_expire : (age : Option ℕ) (m : Samples) → newest (expire age m) ≡ newest m
 newest_expire age m = newest_keep (survives age (newest m)) m (survives_self age (newest m))
 
-pub get_expire : (age : Option ℕ) (m : Samples) (j : ℕ) → get (expire age m) j ≡ cond (survives age (newest m) j) (get m j) none
+pub get_expire : (age : Option ℕ) (m : Samples) (j : ℕ) → get (expire age m) j ≡ cond (survives age (newest m) j) (get m j) None
 get_expire age m j = get_keep (survives age (newest m)) m j
 
 pub expire_fresh : (age : Option ℕ) (m : Samples) → Fresh age m → expire age m ≡ m
@@ -149,7 +149,7 @@ pub newest_insert_lem : (age : Option ℕ) (i : ℕ) (p : Isometry) (m : Samples
 newest_insert_lem age i p m = newest_expire age (put i p m) ∙ newest_put i p m
 
 pub get_insert_lem : (age : Option ℕ) (i : ℕ) (p : Isometry) (m : Samples) (j : ℕ)
-    → get (insert age i p m) j ≡ cond (survives age (max i (newest m)) j) (cond (eqb i j) (some p) (get m j)) none
+    → get (insert age i p m) j ≡ cond (survives age (max i (newest m)) j) (cond (eqb i j) (Some p) (get m j)) None
 get_insert_lem age i p m j = get_expire age (put i p m) j ∙ rw (newest_put i p m, get_put i p m j)
 
 pub rising_insert : (age : Option ℕ) (i : ℕ) (p : Isometry) (m : Samples) → Rising m → Rising (insert age i p m)
@@ -168,7 +168,7 @@ length_insert_le age i p m = omega (arith, length_put_le i p m, length_keep_le (
 -- an insertion after an insertion: the first expires with the second's newest too
 pub get_insert_twice : (age : Option ℕ) (i j : ℕ) (p q : Isometry) (m : Samples) (k : ℕ)
     → get (insert age j q (insert age i p m)) k
-    ≡ cond (survives age (max j (max i (newest m))) k) (cond (eqb j k) (some q) (cond (eqb i k) (some p) (get m k))) none
+    ≡ cond (survives age (max j (max i (newest m))) k) (cond (eqb j k) (Some q) (cond (eqb i k) (Some p) (get m k))) None
 get_insert_twice age i j p q m k =
     get_insert_lem age j q (insert age i p m) k
     ∙ rw (newest_insert_lem age i p m, get_insert_lem age i p m k)
@@ -208,7 +208,7 @@ insert_again age i p q m r =
         (both (eqb i k) (λ h. rw h) (λ h. rw h))
 
 -- one that survives is held
-pub insert_held : (age : Option ℕ) (i : ℕ) (p : Isometry) (m : Samples) → survives age (newest m) i ≡ true → get (insert age i p m) i ≡ some p
+pub insert_held : (age : Option ℕ) (i : ℕ) (p : Isometry) (m : Samples) → survives age (newest m) i ≡ true → get (insert age i p m) i ≡ Some p
 insert_held age i p m h = get_insert_lem age i p m i ∙ rw (eq-eqb i i refl, alive (tri i (newest m)))
   where
     alive : Tri i (newest m) → survives age (max i (newest m)) i ≡ true
@@ -240,7 +240,7 @@ insert_single age i p q =
 
 -- ---- wipes
 
-pub get_remove_before_lem : (i : ℕ) (m : Samples) (j : ℕ) → get (remove_before Dynamic i m) j ≡ cond (leb i j) (get m j) none
+pub get_remove_before_lem : (i : ℕ) (m : Samples) (j : ℕ) → get (remove_before Dynamic i m) j ≡ cond (leb i j) (get m j) None
 get_remove_before_lem i m j = get_keep (leb i) m j
 
 pub rising_remove_before : (k : Kind) (i : ℕ) (m : Samples) → Rising m → Rising (remove_before k i m)

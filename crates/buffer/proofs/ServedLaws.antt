@@ -2,8 +2,8 @@
 use Prim.Native.Nat.{ℕ, suc, ◌-◌, ◌<◌, ◌≤◌}
 use mathlib.Core.Path.{◌≡◌, refl, sym, ap, ◌∙◌}
 use mathlib.Core.Bool.{Bool, true, false}
-use mathlib.Core.Option.{Option, none, some}
-use mathlib.Core.List.{List, [], ◌∷◌, ◌++◌, head?}
+use Rattle.std.specs.Prelude.{Option, None, Some}
+use mathlib.Core.List.{List, [], ◌∷◌, ◌++◌}
 use native.Mathlib.Omega.{arith}
 use lib.ListN.{length, get_or, take, drop}
 use lib.Seq.{split_at, drop-cons}
@@ -18,7 +18,7 @@ use Rattle.geometry.specs.Isometry.{between, interpolated}
 use Rattle.buffer.specs.declared.kind.Kind.{Kind}
 use Rattle.buffer.specs.declared.kind.Kind.TheVariants.{Static, Dynamic}
 use Rattle.buffer.specs.Map.{get, keep}
-use Rattle.buffer.specs.Samples.{Samples, newest, range, last?, between_samples, served}
+use Rattle.buffer.specs.Samples.{Samples, newest, range, last?, between_samples, served, first?}
 use Rattle.geometry.specs.Transform.{passes}
 use Rattle.buffer.proofs.Cases.{both, none_some, false_true, and_both, and_left, and_right, Tri, less, same, more, tri}
 use Rattle.buffer.proofs.Maps.{Floor, Rising, get_floor, get_here, get_there}
@@ -32,7 +32,7 @@ interpolated_answers a b from to query h k = simp (le-ltb to from (omega arith),
 
 -- ---- a held instant, a static row, an empty one
 
-pub served_held : (child : ℕ) (m : Samples) (t : ℕ) (p : Isometry) → get m t ≡ some p → served child Dynamic m t ≡ answer p
+pub served_held : (child : ℕ) (m : Samples) (t : ℕ) (p : Isometry) → get m t ≡ Some p → served child Dynamic m t ≡ answer p
 unfolding served
 served_held child m t p g = rw g
 
@@ -40,7 +40,7 @@ pub served_static : (child : ℕ) (x : ℕ × Isometry) (m : Samples) (t : ℕ) 
 unfolding served
 served_static child x m t = refl
 
-pub served_empty : (child : ℕ) (k : Kind) (t : ℕ) → served child k [] t ≡ refusal 11 (hop child none)
+pub served_empty : (child : ℕ) (k : Kind) (t : ℕ) → served child k [] t ≡ refusal 11 (hop child None)
 unfolding served
 served_empty child Static t = refl
 served_empty child Dynamic t = refl
@@ -55,13 +55,13 @@ none_below : (k : ℕ) (m : Samples) (t : ℕ) → Floor k m → t ≤ suc k →
 none_below k [] t f h = refl
 none_below k (x ∷ m) t f h = rw (le-ltb x.0 t (let l = f.0 in omega arith)) (none_below k m t f.1 h)
 
-get_above : (m : Samples) (t : ℕ) → newest m < t → get m t ≡ none
+get_above : (m : Samples) (t : ℕ) → newest m < t → get m t ≡ None
 get_above [] t h = refl
 get_above (x ∷ m) t h = rw (ne_eqb t x.0 (λ e. omega arith)) (get_above m t (omega arith))
 
-between_samples_above : (unserved : Reply Isometry) (x : Option (ℕ × Isometry)) (t : ℕ) → between_samples unserved x none t ≡ unserved
-between_samples_above unserved none t = refl
-between_samples_above unserved (some x) t = refl
+between_samples_above : (unserved : Reply Isometry) (x : Option (ℕ × Isometry)) (t : ℕ) → between_samples unserved x None t ≡ unserved
+between_samples_above unserved None t = refl
+between_samples_above unserved (Some x) t = refl
 
 pub served_before : (child : ℕ) (x : ℕ × Isometry) (m : Samples) (t : ℕ) → Rising (x ∷ m) → t < x.0
     → served child Dynamic (x ∷ m) t ≡ refusal 11 (hop child (range (x ∷ m)))
@@ -98,24 +98,24 @@ floor_tail : (k : ℕ) (xs ys : Samples) → Floor k (xs ++ ys) → Floor k ys
 floor_tail k [] ys f = f
 floor_tail k (x ∷ xs) ys f = floor_tail k xs ys f.1
 
-last_cons : {A : Type 0} (z x : A) (xs : List A) → last? xs ≡ some x → last? (z ∷ xs) ≡ some x
+last_cons : {A : Type 0} (z x : A) (xs : List A) → last? xs ≡ Some x → last? (z ∷ xs) ≡ Some x
 last_cons z x [] h = absurd (none_some h)
 last_cons z x (y ∷ xs) h = h
 
 module _ (x y : ℕ × Isometry) (ys : Samples) (t : ℕ) (h : x.0 < t) (k : t < y.0) where
-  below_is : (xs : Samples) → Rising (xs ++ (x ∷ y ∷ ys)) → last? (keep (λ i. ltb i t) (xs ++ (x ∷ y ∷ ys))) ≡ some x
+  below_is : (xs : Samples) → Rising (xs ++ (x ∷ y ∷ ys)) → last? (keep (λ i. ltb i t) (xs ++ (x ∷ y ∷ ys))) ≡ Some x
   below_is [] r = rw (lt-ltb x.0 t h, le-ltb y.0 t (omega arith), none_below y.0 ys t r.1.0 (omega arith))
   below_is (z ∷ xs) r =
       let l = (floor_tail z.0 xs (x ∷ y ∷ ys) r.0).0 in
       rw (lt-ltb z.0 t (omega arith)) (last_cons z x (keep (λ i. ltb i t) (xs ++ (x ∷ y ∷ ys))) (below_is xs r.1))
 
-  above_is : (xs : Samples) → Rising (xs ++ (x ∷ y ∷ ys)) → head? (keep (ltb t) (xs ++ (x ∷ y ∷ ys))) ≡ some y
+  above_is : (xs : Samples) → Rising (xs ++ (x ∷ y ∷ ys)) → first? (keep (ltb t) (xs ++ (x ∷ y ∷ ys))) ≡ Some y
   above_is [] r = rw (le-ltb t x.0 (omega arith), lt-ltb t y.0 k)
   above_is (z ∷ xs) r =
       let l = (floor_tail z.0 xs (x ∷ y ∷ ys) r.0).0 in
       rw (le-ltb t z.0 (omega arith)) (above_is xs r.1)
 
-  not_held : (xs : Samples) → Rising (xs ++ (x ∷ y ∷ ys)) → get (xs ++ (x ∷ y ∷ ys)) t ≡ none
+  not_held : (xs : Samples) → Rising (xs ++ (x ∷ y ∷ ys)) → get (xs ++ (x ∷ y ∷ ys)) t ≡ None
   not_held [] r = rw (ne_eqb t x.0 (λ e. omega arith), ne_eqb t y.0 (λ e. omega arith)) (get_floor y.0 t ys r.1.0 (omega arith))
   not_held (z ∷ xs) r =
       let l = (floor_tail z.0 xs (x ∷ y ∷ ys) r.0).0 in
@@ -150,7 +150,7 @@ neighbours_at m i t d l h k = record {
 }
 
 -- an instant in the range that is not held has them
-pub neighbours : (m : Samples) (t : ℕ) → Rising m → within (range m) t ≡ true → get m t ≡ none → Neighbours m t
+pub neighbours : (m : Samples) (t : ℕ) → Rising m → within (range m) t ≡ true → get m t ≡ None → Neighbours m t
 neighbours [] t r w g = absurd (false_true w)
 neighbours (x ∷ []) t r w g =
     let a = leb-true x.0 t (and_left (leb x.0 t) _ w) in
@@ -165,7 +165,7 @@ neighbours (x ∷ y ∷ m) t r w g = go (tri t x.0) (tri t y.0) (neighbours (y �
     last : t ≤ newest (x ∷ y ∷ m)
     last = leb-true t (newest (x ∷ y ∷ m)) (and_right (leb x.0 t) _ w)
 
-    go : Tri t x.0 → Tri t y.0 → (within (range (y ∷ m)) t ≡ true → get (y ∷ m) t ≡ none → Neighbours (y ∷ m) t) → Neighbours (x ∷ y ∷ m) t
+    go : Tri t x.0 → Tri t y.0 → (within (range (y ∷ m)) t ≡ true → get (y ∷ m) t ≡ None → Neighbours (y ∷ m) t) → Neighbours (x ∷ y ∷ m) t
     go (less l) c ih = absurd (omega (arith, first))
     go (same e) c ih = absurd (none_some (sym g ∙ get_here x (y ∷ m) t e))
     go (more l) (less k) ih = record { before = []; below = x; above = y; after = m; place = refl; under = l; over = k }
@@ -185,8 +185,8 @@ pub served_inside : (child : ℕ) (m : Samples) (t : ℕ) → Rising m → withi
 served_inside child m t r w = go (get m t) refl
   where
     go : (o : Option Isometry) → get m t ≡ o → (p : Isometry) × (served child Dynamic m t ≡ answer p)
-    go (some p) g = (p, served_held child m t p g)
-    go none g =
+    go (Some p) g = (p, served_held child m t p g)
+    go None g =
         let n = neighbours m t r w g in
         let u = n.under in
         let v = n.over in

@@ -2,7 +2,7 @@
 use Prim.Native.Nat.{ℕ, zero, suc, ◌-◌, ◌*◌, ◌≤◌, ◌<◌}
 use mathlib.Core.Path.{◌≡◌, sym, ap, ◌∙◌, subst}
 use mathlib.Core.Bool.{false, and-false}
-use mathlib.Core.Option.{Option, some}
+use Rattle.std.specs.Prelude.{Option, Some}
 use mathlib.Core.List.{List, [], ◌∷◌, ◌++◌}
 use native.Mathlib.Nat.{not-suc-le-zero}
 use native.Mathlib.Omega.{arith}
@@ -60,24 +60,24 @@ module _ (n : ℕ) (ts : List ℕ) (fs : List Float) (row : Row n ts fs) (t k : 
   pub exact : k < n → get_or ts k 0 ≡ t → served child Dynamic held t ≡ answer (pose_of (drop (7 * k) fs))
   exact h e =
       let s : get_or held k default ≡ (get_or ts k 0, pose_of (drop (7 * k) fs)) = sample_at n ts fs k default h in
-      let g : get held (get_or held k default).0 ≡ some (get_or held k default).1 = get_at held k default rises (omega (arith, length_samples_of n ts fs)) in
+      let g : get held (get_or held k default).0 ≡ Some (get_or held k default).1 = get_at held k default rises (omega (arith, length_samples_of n ts fs)) in
       let a : (get_or held k default).0 ≡ t = ap (λ (x : ℕ × Isometry). x.0) s ∙ e in
-      served_held child held t (pose_of (drop (7 * k) fs)) (ap (get held) (sym a) ∙ g ∙ ap (λ (x : ℕ × Isometry). some x.1) s)
+      served_held child held t (pose_of (drop (7 * k) fs)) (ap (get held) (sym a) ∙ g ∙ ap (λ (x : ℕ × Isometry). Some x.1) s)
 
-  outside : 0 < n → within (some (get_or ts 0 0, get_or ts (n - 1) 0)) t ≡ false
-      → served child Dynamic held t ≡ refusal 11 (hop child (some (get_or ts 0 0, get_or ts (n - 1) 0)))
+  outside : 0 < n → within (Some (get_or ts 0 0, get_or ts (n - 1) 0)) t ≡ false
+      → served child Dynamic held t ≡ refusal 11 (hop child (Some (get_or ts 0 0, get_or ts (n - 1) 0)))
   outside h w =
       let r = range_held n ts fs (row_held n ts fs row) h in
       served_outside child held t rises (ap (λ (o : Option (ℕ × ℕ)). within o t) r ∙ w) ∙ ap (λ (o : Option (ℕ × ℕ)). refusal 11 (hop child o)) r
 
   -- before the first instant, and after the last
-  pub too_early : 0 < n → k ≡ 0 → (get_or ts k 0 ≡ t → ⊥) → served child Dynamic held t ≡ refusal 11 (hop child (some (get_or ts 0 0, get_or ts (n - 1) 0)))
+  pub too_early : 0 < n → k ≡ 0 → (get_or ts k 0 ≡ t → ⊥) → served child Dynamic held t ≡ refusal 11 (hop child (Some (get_or ts 0 0, get_or ts (n - 1) 0)))
   too_early h z ne = outside h (rw (lt-leb (get_or ts 0 0) t (first (rw z at ne))))
     where
       first : (get_or ts 0 0 ≡ t → ⊥) → t < get_or ts 0 0
       first ne = let l = above_at 0 (omega arith) h in omega arith
 
-  pub too_late_lem : 0 < n → k ≡ n → served child Dynamic held t ≡ refusal 11 (hop child (some (get_or ts 0 0, get_or ts (n - 1) 0)))
+  pub too_late_lem : 0 < n → k ≡ n → served child Dynamic held t ≡ refusal 11 (hop child (Some (get_or ts 0 0, get_or ts (n - 1) 0)))
   too_late_lem h z =
       let l = below_at (n - 1) (omega arith) in
       outside h (rw (lt-leb t (get_or ts (n - 1) 0) l) (and-false (leb (get_or ts 0 0) t)))

@@ -3,7 +3,7 @@ use Prim.Native.Nat.{ℕ, suc, ◌*◌, ◌≤◌}
 use mathlib.Core.Path.{◌≡◌, refl, sym, subst, ◌∙◌}
 use mathlib.Core.Logic.{◌↔◌}
 use mathlib.Core.Bool.{Bool, true, false, ◌&&◌, not}
-use mathlib.Core.Option.{Option, some}
+use Rattle.std.specs.Prelude.{Option, Some}
 use mathlib.Core.List.{List, [], ◌∷◌}
 use native.Mathlib.Omega.{arith}
 use lib.ListN.{length}
@@ -154,7 +154,7 @@ validate_answers p e =
     let n = quaternion.norm p.rotation in
     two_tests (not (vector.is_finite p.translation && quaternion.is_finite p.rotation)) (lt tolerance (abs (n ⊖ one64))) (norm n) p e
 
-pub held_valid : (age : Option ℕ) (capacity : ℕ) (kind : Kind) (m : Samples) → SoundSamples age capacity kind m → (i : ℕ) (p : Isometry) → get m i ≡ some p → passes (validate p) ≡ true
+pub held_valid : (age : Option ℕ) (capacity : ℕ) (kind : Kind) (m : Samples) → SoundSamples age capacity kind m → (i : ℕ) (p : Isometry) → get m i ≡ Some p → passes (validate p) ≡ true
 held_valid age capacity kind m s i p g = (all_get (λ x. passes (validate x.1)) m s.rises).0 s.valid i p g
 
 -- a sound row is served exactly at the times that it covers

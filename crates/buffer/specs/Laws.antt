@@ -1,6 +1,6 @@
 -- What holds of a row's samples, for the tree above. Proved in proofs/BufferLaws.antt under the same names.
 use Rattle.std.specs.Prelude.{ℕ, max, ◌≤◌, ◌≡◌, ◌⊎◌, true, false, cond, eqb, leb}
-use Rattle.std.proofs.Math.Option.{Option, none, some}
+use Rattle.std.specs.Prelude.{Option, None, Some}
 use Rattle.time.specs.Reply.{Carried, nothing, hop, answer, refusal}
 use Rattle.geometry.specs.declared.isometry.Isometry.{Isometry}
 use Rattle.geometry.specs.Isometry.{is_finite}
@@ -12,11 +12,11 @@ use Rattle.buffer.specs.Samples.{Samples, newest, survives, insert, remove_befor
 -- what an insertion leaves at each instant: the new pose or what was held, where it survives the newest
 abbrev pub GetInsert : Type 0
 GetInsert = (age : Option ℕ) (i : ℕ) (p : Isometry) (m : Samples) (j : ℕ)
-    → get (insert age i p m) j ≡ cond (survives age (max i (newest m)) j) (cond (eqb i j) (some p) (get m j)) none
+    → get (insert age i p m) j ≡ cond (survives age (max i (newest m)) j) (cond (eqb i j) (Some p) (get m j)) None
 
 -- what a wipe leaves at each instant
 abbrev pub GetRemoveBefore : Type 0
-GetRemoveBefore = (i : ℕ) (m : Samples) (j : ℕ) → get (remove_before Dynamic i m) j ≡ cond (leb i j) (get m j) none
+GetRemoveBefore = (i : ℕ) (m : Samples) (j : ℕ) → get (remove_before Dynamic i m) j ≡ cond (leb i j) (get m j) None
 
 -- a late sample, even one too old to be held, leaves the newest as it is
 abbrev pub NewestInsert : Type 0
@@ -33,7 +33,7 @@ OrderFree = (age : Option ℕ) (i j : ℕ) (p q : Isometry) (m : Samples) → ri
 
 -- "A query on a sample's instant returns it without slerp."
 abbrev pub ExactSample : Type 0
-ExactSample = (child : ℕ) (m : Samples) (t : ℕ) (p : Isometry) → get m t ≡ some p → served child Dynamic m t ≡ answer p
+ExactSample = (child : ℕ) (m : Samples) (t : ℕ) (p : Isometry) → get m t ≡ Some p → served child Dynamic m t ≡ answer p
 
 -- a row whose instants rise is refused with 11 or not at all, never with 15
 abbrev pub OnlyNotServed : Type 0

@@ -1,6 +1,6 @@
 -- A map from numbers: a list of pairs whose numbers rise strictly.
 use Rattle.std.specs.Prelude.{ℕ, Bool, true, cond, ◌&&◌, List, [], ◌∷◌, map, eqb, ltb}
-use Rattle.std.proofs.Math.Option.{Option, none, some}
+use Rattle.std.specs.Prelude.{Option, None, Some}
 
 abbrev pub Map : Type 0 → Type 0
 Map A = List (ℕ × A)
@@ -22,8 +22,8 @@ module _ {A : Type 0} where
 
   -- what stands at the number k, if anything does
   abbrev pub get : Map A → ℕ → Option A
-  get [] k = none
-  get (x ∷ m) k = cond (eqb k x.0) (some x.1) (get m k)
+  get [] k = None
+  get (x ∷ m) k = cond (eqb k x.0) (Some x.1) (get m k)
 
   -- v at k: in its place, or in the place of what stood at k
   abbrev pub put : ℕ → A → Map A → Map A

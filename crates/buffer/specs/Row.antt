@@ -1,6 +1,6 @@
 -- The words of one row: its S instants and its 7 x S floats, with the held samples first and zeros after them.
 use Rattle.std.specs.Prelude.{ℕ, zero, suc, ◌-◌, ◌*◌, ◌≤◌, ◌≡◌, Bool, true, cond, ◌&&◌, List, [], ◌∷◌, ◌++◌, length, get_or, take, drop, replicate, T, leb, ltb, eqb, Float}
-use Rattle.std.proofs.Math.Option.{Option}
+use Rattle.std.specs.Prelude.{Option}
 use Rattle.std.specs.Float.{nan, binary64}
 use Rattle.std.specs.Float.Ieee.{fits, to_bits}
 use Rattle.time.specs.Float.{zero64}

@@ -1,7 +1,7 @@
 -- A row's samples: poses by instant, what an insertion and a wipe leave of them, and what a query is served.
 use Rattle.std.specs.Prelude.{ℕ, ◌-◌, max, Bool, true, leb, ltb}
-use Rattle.std.proofs.Math.Option.{Option, none, some}
-use mathlib.Core.List.{List, [], ◌∷◌, head?}
+use Rattle.std.specs.Prelude.{Option, None, Some}
+use mathlib.Core.List.{List, [], ◌∷◌}
 use Rattle.time.specs.Reply.{Reply, answer, refusal, hop, ◌then◌}
 use Rattle.geometry.specs.declared.isometry.Isometry.{Isometry}
 use Rattle.geometry.specs.Isometry.{finite, interpolated}
@@ -22,8 +22,8 @@ newest (x ∷ m) = max x.0 (newest m)
 
 -- An instant survives where it is not below the newest less the age. An age above the newest evicts nothing: the difference then is 0.
 abbrev pub survives : Option ℕ → ℕ → ℕ → Bool
-survives none latest i = true
-survives (some age) latest i = leb (latest - age) i
+survives None latest i = true
+survives (Some age) latest i = leb (latest - age) i
 
 -- "puts one in, then, where there is an age, drops a moving child's poses older than its newest less the age"
 abbrev pub expire : Option ℕ → Samples → Samples
@@ -39,8 +39,8 @@ remove_before Dynamic i m = keep (leb i) m
 
 -- the first and the last instant, if any
 abbrev pub range : Samples → Option (ℕ × ℕ)
-range [] = none
-range (x ∷ m) = some (x.0, newest (x ∷ m))
+range [] = None
+range (x ∷ m) = Some (x.0, newest (x ∷ m))
 
 -- when a row is served: at all times, from its first to its last instant, or never
 abbrev pub coverage : Kind → Samples → Coverage
@@ -49,30 +49,34 @@ coverage Dynamic [] = Empty
 coverage Dynamic (x ∷ m) = Range x.0 (newest (x ∷ m))
 
 module _ {A : Type 0} where
+  abbrev pub first? : List A → Option A
+  first? [] = None
+  first? (x ∷ xs) = Some x
+
   abbrev pub last? : List A → Option A
-  last? [] = none
-  last? (x ∷ []) = some x
+  last? [] = None
+  last? (x ∷ []) = Some x
   last? (x ∷ y ∷ xs) = last? (y ∷ xs)
 
 -- the two neighbouring samples interpolated, where both are there
 abbrev pub between_samples : Reply Isometry → Option (ℕ × Isometry) → Option (ℕ × Isometry) → ℕ → Reply Isometry
-between_samples unserved (some x) (some y) t = interpolated x.1 y.1 x.0 y.0 t
-between_samples unserved (some x) none t = unserved
-between_samples unserved none y t = unserved
+between_samples unserved (Some x) (Some y) t = interpolated x.1 y.1 x.0 y.0 t
+between_samples unserved (Some x) None t = unserved
+between_samples unserved None y t = unserved
 
 -- a held pose at its instant; else the last below and the first above interpolated
 abbrev pub served_at : Reply Isometry → Option Isometry → Samples → ℕ → Reply Isometry
-served_at unserved (some p) m t = answer p
-served_at unserved none m t = between_samples unserved (last? (keep (λ i. ltb i t) m)) (head? (keep (ltb t) m)) t
+served_at unserved (Some p) m t = answer p
+served_at unserved None m t = between_samples unserved (last? (keep (λ i. ltb i t) m)) (first? (keep (ltb t) m)) t
 
 abbrev pub single : Reply Isometry → Option (ℕ × Isometry) → Reply Isometry
-single unserved none = unserved
-single unserved (some x) = answer x.1
+single unserved None = unserved
+single unserved (Some x) = answer x.1
 
 -- The steps to the pose of a hop at the instant t, which need not be finite: a static one's at any instant. Refusal 11 carries the hop's child and its
 -- range, if any.
 unfoldable pub served : ℕ → Kind → Samples → ℕ → Reply Isometry
-served child Static m t = single (refusal 11 (hop child (range m))) (head? m)
+served child Static m t = single (refusal 11 (hop child (range m))) (first? m)
 served child Dynamic m t = served_at (refusal 11 (hop child (range m))) (get m t) m t
 
 -- "sample query" (M-103): 11, then 3

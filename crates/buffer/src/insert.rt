@@ -1,6 +1,6 @@
 // Insertion with expiry.
 ghost use Rattle.std.specs.Prelude.{◌≡◌, List, ℕ, max, leb, Float};
-ghost use Rattle.std.proofs.Math.Option.{none};
+ghost use Rattle.std.specs.Prelude.{None};
 ghost use Rattle.buffer.specs.Samples.{newest, survives};
 ghost use Rattle.buffer.specs.Row.{Row, Instants, samples_of, outcome, insert_row};
 ghost use Rattle.buffer.specs.Answers.{age_of, inserted_reply};
@@ -49,7 +49,7 @@ fn oldest(max_age: MaxAge, newest: u64) -> u64
 fn put(instants: &mut [u64], poses: &mut [f64], count: usize, t: u64, pose: Isometry) -> Inserted
     requires { Row count instants.old poses.old }
     ensures { outcome (inserted_reply result) instants.new poses.new
-        ≡ insert_row none t pose count instants.old poses.old }
+        ≡ insert_row None t pose count instants.old poses.old }
 {
     let at = place::place(instants, count as u16, t) as usize;
     if at < count {

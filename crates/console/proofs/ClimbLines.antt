@@ -1,6 +1,6 @@
 -- The lines of the hops from a frame up to another, written one hop at a time.
 use Rattle.std.proofs.Common.{◌≡◌, ℕ, ◌<◌, eqb, List, [], ◌∷◌, length, sym, refl, ap, ◌∙◌, arith}
-use mathlib.Core.Option.{Option, none, some, map}
+use Rattle.std.specs.Prelude.{Option, None, Some, option_map}
 use Rattle.buffer.specs.declared.coverage.Coverage.{Coverage}
 use Rattle.buffer.specs.Map.{get}
 use Rattle.buffer.proofs.Maps.{rising_is}
@@ -34,19 +34,19 @@ module _ (s : Store) (ok : SoundStore s) (i f top : ℕ) where
   pub root_lines : (out : List ℕ) (to : ℕ) → next.End ≡ told_own (tree_of s) f → (to, out) ≡ written_all out to (hop_lines i (hops_to (tree_of s) f top))
   root_lines out to w = no_lines i (hops_to (tree_of s) f top) out to (go (get (tree_of s) f) refl w)
     where
-      go : (g : Option Edge) → get (tree_of s) f ≡ g → next.End ≡ told (map (λ (e : Edge). (f, e)) g) → hops_to (tree_of s) f top ≡ []
-      go none q w = hops_root (tree_of s) (circle_grounded (tree_of s) ((rising_is (tree_of s)).0 (tree_rises s ok)) (tree_circles s ok)) f top q
-      go (some e) q w = let z : ◌≡◌ {A = ℕ} 0 1 = cc in absurd (omega arith)
+      go : (g : Option Edge) → get (tree_of s) f ≡ g → next.End ≡ told (option_map (λ (e : Edge). (f, e)) g) → hops_to (tree_of s) f top ≡ []
+      go None q w = hops_root (tree_of s) (circle_grounded (tree_of s) ((rising_is (tree_of s)).0 (tree_rises s ok)) (tree_circles s ok)) f top q
+      go (Some e) q w = let z : ◌≡◌ {A = ℕ} 0 1 = cc in absurd (omega arith)
 
   module _ (c p n : ℕ) (v : Coverage) (w : next.Edge c p n v ≡ told_own (tree_of s) f) (ne : f ≡ top → ⊥) where
     -- an edge that is told is the first hop
     hop_up : (e : Edge) × (hops_to (tree_of s) f top ≡ (f, e) ∷ hops_to (tree_of s) p top) × (told_line i c p n v ≡ hop_line i (f, e))
     hop_up = go (get (tree_of s) f) refl w
       where
-        go : (g : Option Edge) → get (tree_of s) f ≡ g → next.Edge c p n v ≡ told (map (λ (e : Edge). (f, e)) g)
+        go : (g : Option Edge) → get (tree_of s) f ≡ g → next.Edge c p n v ≡ told (option_map (λ (e : Edge). (f, e)) g)
             → (e : Edge) × (hops_to (tree_of s) f top ≡ (f, e) ∷ hops_to (tree_of s) p top) × (told_line i c p n v ≡ hop_line i (f, e))
-        go none q w = let z : ◌≡◌ {A = ℕ} 0 1 = cc in absurd (omega arith)
-        go (some e) q w =
+        go None q w = let z : ◌≡◌ {A = ℕ} 0 1 = cc in absurd (omega arith)
+        go (Some e) q w =
             let z : p ≡ e.parent = cc in (
               e,
               rw z (hops_up (tree_of s) (circle_grounded (tree_of s) ((rising_is (tree_of s)).0 (tree_rises s ok)) (tree_circles s ok)) f top e q (λ x. ne (sym x))),

@@ -1,6 +1,6 @@
 -- The edges under a frame are a tree of their own, in the order of their children.
 use Rattle.std.proofs.Common.{◌≡◌, ℕ, ◌+◌, Bool, true, false, eqb, leb, [], ◌∷◌, sym, refl, ap, ◌∙◌, arith, eq-eqb, ne_eqb, eqb-true}
-use mathlib.Core.Option.{some}
+use Rattle.std.specs.Prelude.{Some}
 use Rattle.buffer.specs.declared.coverage.Coverage.{Coverage}
 use Rattle.buffer.specs.Map.{get, keep, rising}
 use Rattle.buffer.proofs.Cases.{both, none_some}
@@ -32,18 +32,18 @@ module _ (f : ℕ) where
   pub under_rises : (t : Tree) → rising t ≡ true → rising (under t f) ≡ true
   under_rises t r = (rising_is (under t f)).1 (rising_under t ((rising_is t).0 r))
 
-  under_held : (t : Tree) → Rising t → (c : ℕ) (e : Edge) → get (under t f) c ≡ some e → (get t c ≡ some e) × (e.parent ≡ f)
+  under_held : (t : Tree) → Rising t → (c : ℕ) (e : Edge) → get (under t f) c ≡ Some e → (get t c ≡ Some e) × (e.parent ≡ f)
   under_held [] r c e q = absurd (none_some q)
   under_held (x ∷ t) r c e q = both (eqb x.1.parent f) (here (under_held t r.1 c e)) (there (under_held t r.1 c e))
     where
-      here : (get (under t f) c ≡ some e → (get t c ≡ some e) × (e.parent ≡ f)) → eqb x.1.parent f ≡ true → (get (x ∷ t) c ≡ some e) × (e.parent ≡ f)
+      here : (get (under t f) c ≡ Some e → (get t c ≡ Some e) × (e.parent ≡ f)) → eqb x.1.parent f ≡ true → (get (x ∷ t) c ≡ Some e) × (e.parent ≡ f)
       here rest p =
-          let g : get (x ∷ under t f) c ≡ some e = rw p at q in
+          let g : get (x ∷ under t f) c ≡ Some e = rw p at q in
           both (eqb c x.0)
-          (λ s. let h : x.1 ≡ e = cc (rw s at g) in (rw s (ap some h), ap (λ (z : Edge). z.parent) (sym h) ∙ eqb-true x.1.parent f p))
+          (λ s. let h : x.1 ≡ e = cc (rw s at g) in (rw s (ap Some h), ap (λ (z : Edge). z.parent) (sym h) ∙ eqb-true x.1.parent f p))
           (λ s. let z = rest (rw s at g) in (rw s z.0, z.1))
 
-      there : (get (under t f) c ≡ some e → (get t c ≡ some e) × (e.parent ≡ f)) → eqb x.1.parent f ≡ false → (get (x ∷ t) c ≡ some e) × (e.parent ≡ f)
+      there : (get (under t f) c ≡ Some e → (get t c ≡ Some e) × (e.parent ≡ f)) → eqb x.1.parent f ≡ false → (get (x ∷ t) c ≡ Some e) × (e.parent ≡ f)
       there rest p =
           let z = rest (rw p at q) in
           both (eqb c x.0)
@@ -51,7 +51,7 @@ module _ (f : ℕ) where
           (λ s. (rw s z.0, z.1))
 
   -- an edge told of them is the child's own, and its parent the frame
-  pub next_held : (t : Tree) → rising t ≡ true → (k c p n : ℕ) (v : Coverage) → (x : Next (under t f) k c p n v) → (get t c ≡ some x.edge) × (x.edge.parent ≡ f)
+  pub next_held : (t : Tree) → rising t ≡ true → (k c p n : ℕ) (v : Coverage) → (x : Next (under t f) k c p n v) → (get t c ≡ Some x.edge) × (x.edge.parent ≡ f)
   next_held t r k c p n v x = under_held t ((rising_is t).0 r) c x.edge x.held
 
   -- an edge that is read: it is the first under the frame, or those under the frame stand behind it

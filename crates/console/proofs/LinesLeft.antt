@@ -1,6 +1,6 @@
 -- The lines that are left of the walk over the frames below a root, turn by turn.
 use Rattle.std.proofs.Common.{◌≡◌, ℕ, zero, suc, ◌+◌, ◌-◌, ◌<◌, ◌≤◌, true, leb, List, [], ◌∷◌, ◌++◌, sym, refl, ap, ◌∙◌, append_assoc, append-nil, add-one, arith}
-use mathlib.Core.Option.{Option, none, some}
+use Rattle.std.specs.Prelude.{Option, None, Some}
 use Rattle.buffer.specs.declared.coverage.Coverage.{Coverage}
 use Rattle.buffer.specs.Map.{get, keep, rising}
 use Rattle.text.specs.Ascii.{ascii}
@@ -23,8 +23,8 @@ module _ (t : Tree) where
   left_start f = rw (from_zero (under t f)) (none_above (get t f))
     where
       none_above : (m : Option Edge) → lines_of 1 (below 255 t 2) (under t f) ++ behind_frame (lines_left t 0) f m ≡ lines_of 1 (below 255 t 2) (under t f)
-      none_above none = append-nil _
-      none_above (some e) = append-nil _
+      none_above None = append-nil _
+      none_above (Some e) = append-nil _
 
   -- no edge is left under the frame
   pub left_up : (level f k : ℕ) → 0 < level → keep (leb k) (under t f) ≡ [] → lines_left t level f k ≡ behind_frame (lines_left t (level - 1)) f (get t f)
@@ -40,7 +40,7 @@ module _ (t : Tree) where
   left_first (suc l) f k c p n v x h = rw (x.left, append_assoc) refl
 
   -- the walk below a child, and behind it
-  pub left_below : (level f c : ℕ) (e : Edge) → level < 256 → get t c ≡ some e → e.parent ≡ f
+  pub left_below : (level f c : ℕ) (e : Edge) → level < 256 → get t c ≡ Some e → e.parent ≡ f
       → lines_left t (level + 1) c 0 ≡ below (256 - level) t (level + 1) c ++ lines_left t level f (c + 1)
   unfolding lines_left below
   left_below level f c e l g p =

@@ -1,6 +1,6 @@
 -- The edge of a frame among those from it on.
 use Rattle.std.proofs.Common.{◌≡◌, ℕ, true, cond, eqb, sym, refl, ap, ◌∙◌, eq-eqb, ne_eqb}
-use mathlib.Core.Option.{Option, none, some, map}
+use Rattle.std.specs.Prelude.{Option, None, Some, option_map}
 use Rattle.buffer.specs.declared.coverage.Coverage.{Coverage}
 use Rattle.buffer.specs.Map.{get, rising}
 use Rattle.buffer.proofs.Cases.{none_some}
@@ -23,17 +23,17 @@ other_left f c p n v e = rw (ne_eqb c f e)
 
 -- a frame with its edge, as it is told
 abbrev pub told_own : Tree → ℕ → NextEdge
-told_own t f = told (map (λ (e : Edge). (f, e)) (get t f))
+told_own t f = told (option_map (λ (e : Edge). (f, e)) (get t f))
 
 module _ (t : Tree) (rises : rising t ≡ true) (f : ℕ) where
   pub own_edge : own_of f (told (edge_from t f)) ≡ told_own t f
   own_edge = go (get t f) refl
     where
-      apart : (m : Option (ℕ × Edge)) → edge_from t f ≡ m → get t f ≡ none → own_of f (told m) ≡ next.End
-      apart none q g = refl
-      apart (some x) q g =
+      apart : (m : Option (ℕ × Edge)) → edge_from t f ≡ m → get t f ≡ None → own_of f (told m) ≡ next.End
+      apart None q g = refl
+      apart (Some x) q g =
           rw (ne_eqb x.0 f (λ e. none_some (sym g ∙ ap (get t) (sym e) ∙ (reads_through.held t f x q).1)))
 
-      go : (g : Option Edge) → get t f ≡ g → own_of f (told (edge_from t f)) ≡ told (map (λ (e : Edge). (f, e)) g)
-      go none g = apart (edge_from t f) refl g
-      go (some e) g = ap (λ (m : Option (ℕ × Edge)). own_of f (told m)) (reads_through.own t f e rises g) ∙ rw (eq-eqb f f refl)
+      go : (g : Option Edge) → get t f ≡ g → own_of f (told (edge_from t f)) ≡ told (option_map (λ (e : Edge). (f, e)) g)
+      go None g = apart (edge_from t f) refl g
+      go (Some e) g = ap (λ (m : Option (ℕ × Edge)). own_of f (told m)) (reads_through.own t f e rises g) ∙ rw (eq-eqb f f refl)

@@ -1,6 +1,6 @@
 -- The lowest root from a number on, and the roots one behind the other.
 use Rattle.std.proofs.Common.{◌≡◌, ℕ, suc, ◌+◌, ◌-◌, ◌^◌, ◌<◌, ◌≤◌, Bool, true, cond, ◌&&◌, ltb, leb, List, [], ◌∷◌, refl, arith, ltb-true, lt-ltb}
-use mathlib.Core.Option.{Option, none, some}
+use Rattle.std.specs.Prelude.{Option, None, Some}
 use Rattle.buffer.specs.Map.{all}
 use Rattle.buffer.proofs.Cases.{both, none_some, and_left, and_right}
 use Rattle.buffer.proofs.Maps.{rising_is}
@@ -15,11 +15,11 @@ use Rattle.console.specs.Tree.{is_root, lower, lowest_root, root_texts, roots_te
 
 -- a frame that is found has 32 bits
 abbrev Fits : Option ℕ → Type 0
-Fits o = (f : ℕ) → o ≡ some f → f < 2 ^ 32
+Fits o = (f : ℕ) → o ≡ Some f → f < 2 ^ 32
 
 lower_fits : (o : Option ℕ) (p : ℕ) → Fits o → p < 2 ^ 32 → Fits (lower o p)
-lower_fits none p h l f q = let e : p ≡ f = cc in omega arith
-lower_fits (some g) p h l f q =
+lower_fits None p h l f q = let e : p ≡ f = cc in omega arith
+lower_fits (Some g) p h l f q =
     let k = h g refl in
     both (ltb p g) (λ s. let e : p ≡ f = cc (rw s at q) in omega arith) (λ s. let e : g ≡ f = cc (rw s at q) in omega arith)
 
@@ -38,10 +38,10 @@ lowest_of t from (x ∷ xs) o h a =
     (and_right (parent_fits x) (all parent_fits xs) a)
 
 -- the lowest root has 32 bits
-pub lowest_fits : (s : Store) → SoundStore s → (from f : ℕ) → lowest_root (tree_of s) from none (tree_of s) ≡ some f → f < 2 ^ 32
+pub lowest_fits : (s : Store) → SoundStore s → (from f : ℕ) → lowest_root (tree_of s) from None (tree_of s) ≡ Some f → f < 2 ^ 32
 lowest_fits s ok from =
     let t = tree_of s in
-    lowest_of t from t none (λ f q. absurd (none_some q))
+    lowest_of t from t None (λ f q. absurd (none_some q))
     ((all_get parent_fits t ((rising_is t).0 (tree_rises s ok))).1 (λ f e q. lt-ltb e.parent (2 ^ 32) (parent_fits_lem s ok f e q)))
 
 -- ---- the roots from a number on, of which k are written
@@ -59,12 +59,12 @@ module _ (t : Tree) (k from : ℕ) (out : List ℕ) (to : ℕ) where
     left = omega arith
 
     -- there is none
-    pub roots_none : lowest_root t from none t ≡ none → (to, out) ≡ written_all out to (roots_texts (256 - k) t from)
+    pub roots_none : lowest_root t from None t ≡ None → (to, out) ≡ written_all out to (roots_texts (256 - k) t from)
     unfolding roots_texts
     roots_none q = rw (left, q) (nothing out to)
 
     -- one is written, and those behind it are left
-    pub roots_more : (f to₁ : ℕ) (out₁ : List ℕ) → lowest_root t from none t ≡ some f → (to₁, out₁) ≡ written_all out to (root_texts t f)
+    pub roots_more : (f to₁ : ℕ) (out₁ : List ℕ) → lowest_root t from None t ≡ Some f → (to₁, out₁) ≡ written_all out to (root_texts t f)
         → written_all out₁ to₁ (roots_texts (256 - (k + 1)) t (f + 1)) ≡ written_all out to (roots_texts (256 - k) t from)
     unfolding roots_texts
     roots_more f to₁ out₁ q w = rw (left, q) (behind _ out out₁ to to₁ _ _ w refl)

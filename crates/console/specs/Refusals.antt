@@ -1,6 +1,6 @@
 -- Refusals in words: lists of texts that are written one behind the other.
 use Rattle.std.specs.Prelude.{ℕ, List, [], ◌∷◌, ◌++◌, slice_index_or}
-use Rattle.std.proofs.Math.Option.{Option, none, some}
+use Rattle.std.specs.Prelude.{Option, None, Some}
 use Rattle.time.specs.Reply.{Reply, Carried, answer, refusal, nothing, norm, frame, hop}
 use Rattle.registry.specs.Answers.{Value}
 use Rattle.text.specs.Ascii.{ascii}
@@ -42,8 +42,8 @@ number_texts k = ascii "refused with " ∷ number_text k ∷ ascii ": " ∷ word
 
 -- a frame, and the range that it is served in, if it holds any sample
 unfoldable pub hop_texts : ℕ → Option (ℕ × ℕ) → List (List ℕ)
-hop_texts child none = frame_texts child ++ (ascii " holds no sample" ∷ [])
-hop_texts child (some r) = frame_texts child ++ (ascii " is served from " ∷ (seconds_texts r.0 ++ (ascii " to " ∷ seconds_texts r.1)))
+hop_texts child None = frame_texts child ++ (ascii " holds no sample" ∷ [])
+hop_texts child (Some r) = frame_texts child ++ (ascii " is served from " ∷ (seconds_texts r.0 ++ (ascii " to " ∷ seconds_texts r.1)))
 
 -- what a refusal carries, if it carries anything
 abbrev pub carried_texts : Carried → List (List ℕ)

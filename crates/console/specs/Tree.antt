@@ -1,6 +1,6 @@
 -- What `tree` says: the tree as an indented picture.
 use Rattle.std.specs.Prelude.{ℕ, zero, suc, ◌+◌, Bool, cond, ◌&&◌, List, [], ◌∷◌, ◌++◌, length, replicate, ◌==◌, nat_le, nat_lt}
-use Rattle.std.proofs.Math.Option.{Option, none, some}
+use Rattle.std.specs.Prelude.{Option, None, Some}
 use Rattle.text.specs.Ascii.{ascii}
 use Rattle.text.specs.Writing.{number_text}
 use Rattle.buffer.specs.Map.{get}
@@ -36,8 +36,8 @@ is_root t f = is_absent (get t f)
 
 -- the lower of a frame and what was found before, if anything was
 abbrev pub lower : Option ℕ → ℕ → Option ℕ
-lower none f = some f
-lower (some g) f = some (cond (nat_lt f g) f g)
+lower None f = Some f
+lower (Some g) f = Some (cond (nat_lt f g) f g)
 
 -- the lowest root from a number on among the parents of these edges, and what was found before; none: there is none
 abbrev pub lowest_root : Tree → ℕ → Option ℕ → Tree → Option ℕ
@@ -56,13 +56,13 @@ root_texts t f = number_text f ∷ ascii "\n" ∷ joined_lines (below 256 t 1 f)
 
 -- nothing, or the texts for a frame that was found
 abbrev pub if_found : (ℕ → List (List ℕ)) → Option ℕ → List (List ℕ)
-if_found texts none = []
-if_found texts (some f) = texts f
+if_found texts None = []
+if_found texts (Some f) = texts f
 
 -- the roots from a number on by rising number, so many of them
 unfoldable pub roots_texts : ℕ → Tree → ℕ → List (List ℕ)
 roots_texts zero t from = []
-roots_texts (suc roots) t from = if_found (λ f. root_texts t f ++ roots_texts roots t (f + 1)) (lowest_root t from none t)
+roots_texts (suc roots) t from = if_found (λ f. root_texts t f ++ roots_texts roots t (f + 1)) (lowest_root t from None t)
 
 -- how many frames have a parent, and every frame below its parent; each root has a child, so there are at most 256
 unfoldable pub tree_texts : Tree → List (List ℕ)

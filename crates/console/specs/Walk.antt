@@ -1,6 +1,6 @@
 -- The walk of `tree` over the frames below a root, as the contracts of private functions cite it. No public contract rests on these.
 use Rattle.std.specs.Prelude.{◌≡◌, ℕ, zero, suc, ◌+◌, ◌-◌, ◌*◌, ◌<◌, ◌≤◌, List, [], ◌++◌, length, nat_le}
-use Rattle.std.proofs.Math.Option.{Option, none, some}
+use Rattle.std.specs.Prelude.{Option, None, Some}
 use Rattle.text.specs.Writing.{written_all}
 use Rattle.buffer.specs.Map.{get, keep}
 use Rattle.registry.specs.Tree.{Edge, Tree}
@@ -11,13 +11,13 @@ use Rattle.console.specs.Tree.{under, lines_of, below, joined_lines}
 
 -- the root that was found, if any was
 abbrev pub found : Root → Option ℕ
-found (root.Frame f) = some f
-found root.Nothing = none
+found (root.Frame f) = Some f
+found root.Nothing = None
 
 -- nothing behind a root; behind a child f what is left under its parent, from f + 1 on
 abbrev pub behind_frame : (ℕ → ℕ → List (List (List ℕ))) → ℕ → Option Edge → List (List (List ℕ))
-behind_frame left f none = []
-behind_frame left f (some e) = left e.parent (f + 1)
+behind_frame left f None = []
+behind_frame left f (Some e) = left e.parent (f + 1)
 
 -- The lines that are left of a walk over all frames below a root, which stands at a level under a frame f:
 -- those of the children of f from a number on, and behind them those that are left one level up, behind f.

@@ -1,6 +1,6 @@
 // The edges of a store that has been tested, one at a time, and the words for one.
 ghost use Rattle.std.specs.Prelude.{◌≡◌, ◌+◌, ◌^◌, ◌<◌, [], ◌∷◌, ◌++◌, if◌then◌else◌, nat_eq};
-ghost use Rattle.std.proofs.Math.Option.{map};
+ghost use Rattle.std.specs.Prelude.{option_map};
 ghost use Rattle.time.specs.Reply.{answer, ◌then◌};
 ghost use Rattle.buffer.specs.Map.{get};
 ghost use Rattle.text.specs.Ascii.{ascii};
@@ -53,7 +53,7 @@ pub(crate) fn behind(child: u64) -> u64
 // The edge of a frame. End for a root, which has none.
 pub(crate) fn edge_of(head: &[u64], instants: &[u64], poses: &[f64], frame: u64) -> NextEdge
     requires { SoundStore (store_of head.now instants.now poses.now) }
-    ensures { result ≡ told (map (λ e. (frame, e)) (get (tree_of (store_of head.now instants.now poses.now)) frame)) }
+    ensures { result ≡ told (option_map (λ e. (frame, e)) (get (tree_of (store_of head.now instants.now poses.now)) frame)) }
 {
     let NextEdge::Edge {
         child,

@@ -1,6 +1,6 @@
 // `tree`: the tree as an indented picture.
 ghost use Rattle.std.specs.Prelude.{◌≡◌, ◌-◌, ◌<◌, ◌≤◌, ◌&&◌, [], ◌∷◌, ◌++◌, length, if◌then◌else◌, nat_le};
-ghost use Rattle.std.proofs.Math.Option.{none};
+ghost use Rattle.std.specs.Prelude.{None};
 ghost use Rattle.buffer.specs.Map.{get};
 ghost use Rattle.text.specs.Ascii.{ascii};
 ghost use Rattle.text.specs.Writing.{number_text, written_all};
@@ -225,7 +225,7 @@ fn lower_root(
 // The lowest root from a frame on.
 fn root_from(head: &[u64], instants: &[u64], poses: &[f64], from: u64) -> Root
     requires { SoundStore (store_of head.now instants.now poses.now) }
-    ensures { found result ≡ lowest_root (tree_of (store_of head.now instants.now poses.now)) from none (tree_of (store_of head.now instants.now poses.now)) }
+    ensures { found result ≡ lowest_root (tree_of (store_of head.now instants.now poses.now)) from None (tree_of (store_of head.now instants.now poses.now)) }
 {
     let mut lowest = Root::Nothing;
     let mut next = 0;

@@ -2,7 +2,7 @@
 use Prim.Native.Nat.{ℕ, ◌-◌}
 use mathlib.Core.Path.{◌≡◌, refl}
 use mathlib.Core.Bool.{Bool, true, false, not, ◌&&◌}
-use mathlib.Core.Option.{Option, none}
+use Rattle.std.specs.Prelude.{Option, None}
 use native.Mathlib.Omega.{arith}
 use lib.Dec.{eqb, ltb}
 use lib.Ieee.{lt}
@@ -39,9 +39,9 @@ refuse_then_due true k c r next later h = refl
 refuse_then_due false k c r next later h = h
 
 -- 3 comes last, of an answer that is not finite
-pub finite_due : (p : Isometry) → refused (finitePose p) ≡ due_or 3 (overflow_due (answer p)) none
+pub finite_due : (p : Isometry) → refused (finitePose p) ≡ due_or 3 (overflow_due (answer p)) None
 unfolding finitePose
-finite_due p = refuse_due {A = Isometry} (not (is_finite p)) 3 nothing (answer p) none refl
+finite_due p = refuse_due {A = Isometry} (not (is_finite p)) 3 nothing (answer p) None refl
 
 -- ---- the laws
 
@@ -55,7 +55,7 @@ inverse_first_due a =
     let n = quaternion.norm a.rotation in
     refuse_then_due (not (finite n)) 13 nothing _ _ _
     (refuse_then_due (lt n quaternion.epsilon) 14 nothing (answer (quaternion.scale a.rotation (one64 ⊘ n))) _ _
-    (refuse_due {A = Isometry} (not (vector.is_finite (inverse_translation a))) 3 nothing _ none refl))
+    (refuse_due {A = Isometry} (not (vector.is_finite (inverse_translation a))) 3 nothing _ None refl))
 
 pub interpolation_first_due : InterpolationFirstDue
 unfolding interpolate interpolated share interpolation_due
@@ -83,4 +83,4 @@ unfolding validate pose_due
 validate_first_due a =
     let n = quaternion.norm a.rotation in
     refuse_due (not (vector.is_finite a.translation && quaternion.is_finite a.rotation)) 3 nothing _ _
-    (refuse_due (lt tolerance (abs (n ⊖ one64))) 4 (norm n) (answer a) none refl)
+    (refuse_due (lt tolerance (abs (n ⊖ one64))) 4 (norm n) (answer a) None refl)

@@ -1,6 +1,6 @@
 -- Poses: a rotation followed by a translation.
 use Rattle.std.specs.Prelude.{ℕ, Bool, not, ◌&&◌, Float}
-use Rattle.std.proofs.Math.Option.{Option, none, some}
+use Rattle.std.specs.Prelude.{Option, None, Some}
 use Rattle.time.specs.Float.{◌⊖◌, one64}
 use Rattle.time.specs.Reply.{Reply, answer, nothing, ◌then◌, refuse}
 use Rattle.time.specs.Timestamp.{share}
@@ -51,8 +51,8 @@ between a b ratio = record {
 
 -- the first pose where both ends have one instant, else the pose at the share
 abbrev pub at_share : Isometry → Isometry → Option Float → Isometry
-at_share a b none = a
-at_share a b (some ratio) = between a b ratio
+at_share a b None = a
+at_share a b (Some ratio) = between a b ratio
 
 -- the steps between the pose a at `from` and the pose b at `to`, whose result need not be finite; refusal 15 comes from the share
 unfoldable pub interpolated : Isometry → Isometry → ℕ → ℕ → ℕ → Reply Isometry

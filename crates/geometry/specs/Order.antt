@@ -1,7 +1,7 @@
 -- The orders of refusals of the pose operations: "Inverse: 13, 14, 3. Interpolation: 15. Product: none.", and since M-103 a 3 that "comes last in each
 -- order". Proved in proofs/Order.antt.
 use Rattle.std.specs.Prelude.{ℕ, ◌≡◌, not, ◌&&◌, ◌||◌, List, [], ◌∷◌, eqb, ltb}
-use Rattle.std.proofs.Math.Option.{Option, none}
+use Rattle.std.specs.Prelude.{Option, None}
 use Rattle.std.specs.Float.Ieee.{lt}
 use Rattle.std.specs.Float.Ieee.Scale.{finite}
 use Rattle.time.specs.Float.{◌⊖◌, ◌⊘◌, one64, abs}
@@ -17,7 +17,7 @@ use Rattle.geometry.specs.Transform.{tolerance, validate}
 -- 3: "a component of the result is not finite", where there is a result
 abbrev pub overflow_due : Reply Isometry → Option Carried
 overflow_due (answer p) = when (not (is_finite p)) nothing
-overflow_due (refusal k c) = none
+overflow_due (refusal k c) = None
 
 -- ---- product
 

@@ -2,7 +2,7 @@
 -- names that come later stand behind.
 use mathlib.Core.Path.{◌≡◌, refl, sym, ap, ◌∙◌}
 use mathlib.Core.Bool.{Bool, true, false, cond, not, ◌&&◌, ◌||◌, or_assoc, or-false}
-use mathlib.Core.Option.{none, some}
+use Rattle.std.specs.Prelude.{None, Some}
 use mathlib.Core.List.{List, [], ◌∷◌, ◌++◌, append_assoc, append-nil}
 use Prim.Native.Nat.{ℕ, zero, suc, ◌≤◌, ◌<◌}
 use native.Mathlib.Omega.{arith}
@@ -106,40 +106,40 @@ position_behind n (x ∷ xs) ys h =
     (λ e. absurd (false_true (sym h ∙ rw e refl)))
     (λ e. rw e (ap suc (position_behind n xs ys (rw e at h))))
 
-pub at_behind : (n : Name) (xs ys : List Name) → at_number (length xs) (xs ++ (n ∷ ys)) ≡ some n
+pub at_behind : (n : Name) (xs ys : List Name) → at_number (length xs) (xs ++ (n ∷ ys)) ≡ Some n
 at_behind n [] ys = refl
 at_behind n (x ∷ xs) ys = at_behind n xs ys
 
-pub at_none : (k : ℕ) (xs : List Name) → length xs ≤ k → at_number k xs ≡ none
+pub at_none : (k : ℕ) (xs : List Name) → length xs ≤ k → at_number k xs ≡ None
 at_none k [] h = refl
 at_none zero (x ∷ xs) h = absurd (omega arith)
 at_none (suc k) (x ∷ xs) h = at_none k xs (omega arith)
 
-pub at_some : (k : ℕ) (xs : List Name) → k < length xs → (name : Name) × (at_number k xs ≡ some name)
+pub at_some : (k : ℕ) (xs : List Name) → k < length xs → (name : Name) × (at_number k xs ≡ Some name)
 at_some k [] h = absurd (omega arith)
 at_some zero (x ∷ xs) h = (x, refl)
 at_some (suc k) (x ∷ xs) h = at_some k xs (omega arith)
 
-pub at_below : (k : ℕ) (xs : List Name) (n : Name) → at_number k xs ≡ some n → k < length xs
+pub at_below : (k : ℕ) (xs : List Name) (n : Name) → at_number k xs ≡ Some n → k < length xs
 at_below k [] n h = absurd (none_some h)
 at_below zero (x ∷ xs) n h = omega arith
 at_below (suc k) (x ∷ xs) n h = let below : k < length xs = at_below k xs n h in omega arith
 
-pub at_position : (n : Name) (xs : List Name) → among n xs ≡ true → at_number (position n xs) xs ≡ some n
+pub at_position : (n : Name) (xs : List Name) → among n xs ≡ true → at_number (position n xs) xs ≡ Some n
 at_position n [] h = absurd (false_true h)
 at_position n (x ∷ xs) h =
     both (same n x)
-    (λ e. rw e (ap some (sym (same_is n x e))))
+    (λ e. rw e (ap Some (sym (same_is n x e))))
     (λ e. rw e (at_position n xs (rw e at h)))
 
 -- a name at a number is among them
-pub at_among : (k : ℕ) (xs : List Name) (n : Name) → at_number k xs ≡ some n → among n xs ≡ true
+pub at_among : (k : ℕ) (xs : List Name) (n : Name) → at_number k xs ≡ Some n → among n xs ≡ true
 at_among k [] n h = absurd (none_some h)
 at_among zero (x ∷ xs) n h = let e : x ≡ n = cc h in rw (e, same_self n) refl
 at_among (suc k) (x ∷ xs) n h = both (same n x) (λ e. rw e refl) (λ e. rw e (at_among k xs n h))
 
 -- where no name stands twice, it has that number
-pub position_at : (k : ℕ) (xs : List Name) (n : Name) → distinct xs ≡ true → at_number k xs ≡ some n → position n xs ≡ k
+pub position_at : (k : ℕ) (xs : List Name) (n : Name) → distinct xs ≡ true → at_number k xs ≡ Some n → position n xs ≡ k
 position_at k [] n d h = absurd (none_some h)
 position_at zero (x ∷ xs) n d h = let e : x ≡ n = cc h in rw (e, same_self n) refl
 position_at (suc k) (x ∷ xs) n d h =

@@ -2,7 +2,8 @@
 use Prim.Native.Nat.{ℕ, zero, suc, ◌^◌, ◌≤◌, ◌<◌}
 use mathlib.Core.Path.{◌≡◌, refl, sym, ap, ◌∙◌, subst}
 use mathlib.Core.Bool.{Bool, true, false, cond, ◌&&◌}
-use mathlib.Core.Option.{Option, none, some, some-injective}
+use Rattle.std.specs.Prelude.{Option, None, Some}
+use Rattle.time.proofs.Options.{Some-injective}
 use mathlib.Core.List.{List, [], ◌∷◌, ◌++◌, append_assoc}
 use native.Mathlib.Omega.{arith}
 use borrow.Author.Tests.{le-leb, leb-true, lt-ltb, ltb-true, eq-eqb, eqb-true}
@@ -20,16 +21,16 @@ use Rattle.map_file.proofs.Steps.{steps}
 
 -- bytes have the form exactly where they begin with what is written of a value that fits
 pub record BothWays {A : Type 0} (form : List ℕ → Option (A × List ℕ)) (written : A → List ℕ) (fits : A → Bool) : Type 0 where
-  pub forth : (bytes : List ℕ) (a : A) (rest : List ℕ) → Bytes bytes → form bytes ≡ some (a, rest) → (bytes ≡ written a ++ rest) × (fits a ≡ true)
-  pub back : (a : A) (rest : List ℕ) → fits a ≡ true → form (written a ++ rest) ≡ some (a, rest)
+  pub forth : (bytes : List ℕ) (a : A) (rest : List ℕ) → Bytes bytes → form bytes ≡ Some (a, rest) → (bytes ≡ written a ++ rest) × (fits a ≡ true)
+  pub back : (a : A) (rest : List ℕ) → fits a ≡ true → form (written a ++ rest) ≡ Some (a, rest)
 
 -- what is left are bytes
 pub left_bytes : (bytes front rest : List ℕ) → Bytes bytes → bytes ≡ front ++ rest → Bytes rest
 left_bytes bytes front rest h e = bytes_rest front rest (subst Bytes e h)
 
 -- a test that was passed
-pub passed : {A : Type 0} (b : Bool) (x y : A) → cond b (some x) none ≡ some y → (b ≡ true) × (x ≡ y)
-passed true x y e = (refl, some-injective x y e)
+pub passed : {A : Type 0} (b : Bool) (x y : A) → cond b (Some x) None ≡ Some y → (b ≡ true) × (x ≡ y)
+passed true x y e = (refl, Some-injective x y e)
 passed false x y e = absurd (none_some e)
 
 -- ---- a number of k bytes
@@ -37,7 +38,7 @@ passed false x y e = absurd (none_some e)
 pub number_ways : (k : ℕ) → BothWays (number_from k) (number_bytes k) (λ n. ltb n (256 ^ k))
 number_ways k = record { forth = forth; back = back }
   where
-    forth : (bytes : List ℕ) (n : ℕ) (rest : List ℕ) → Bytes bytes → number_from k bytes ≡ some (n, rest) → (bytes ≡ number_bytes k n ++ rest) × (ltb n (256 ^ k) ≡ true)
+    forth : (bytes : List ℕ) (n : ℕ) (rest : List ℕ) → Bytes bytes → number_from k bytes ≡ Some (n, rest) → (bytes ≡ number_bytes k n ++ rest) × (ltb n (256 ^ k) ≡ true)
     forth bytes n rest h e =
         let r = passed (leb k (length bytes)) _ _ e in
         let value : number (take k bytes) ≡ n = ap (λ x. x.0) r.1 in
@@ -47,7 +48,7 @@ number_ways k = record { forth = forth; back = back }
         let below : number (take k bytes) < 256 ^ length (take k bytes) = number_below (take k bytes) (bytes_take k bytes h) in
         (sym (take-append-drop k bytes) ∙ (λ i. front i ++ behind i), lt-ltb n (256 ^ k) (subst (λ (m : ℕ). m < 256 ^ k) value (subst (λ (j : ℕ). number (take k bytes) < 256 ^ j) long below)))
 
-    back : (n : ℕ) (rest : List ℕ) → ltb n (256 ^ k) ≡ true → number_from k (number_bytes k n ++ rest) ≡ some (n, rest)
+    back : (n : ℕ) (rest : List ℕ) → ltb n (256 ^ k) ≡ true → number_from k (number_bytes k n ++ rest) ≡ Some (n, rest)
     back n rest f =
         let long = length_bytes k n in
         let room : k ≤ length (number_bytes k n ++ rest) = omega (arith, long, length-append (number_bytes k n) rest) in
@@ -58,7 +59,7 @@ number_ways k = record { forth = forth; back = back }
 pub name_ways : BothWays name_from name_bytes name_fits
 name_ways = record { forth = forth; back = back }
   where
-    forth : (bytes : List ℕ) (name : Name) (rest : List ℕ) → Bytes bytes → name_from bytes ≡ some (name, rest) → (bytes ≡ name_bytes name ++ rest) × (name_fits name ≡ true)
+    forth : (bytes : List ℕ) (name : Name) (rest : List ℕ) → Bytes bytes → name_from bytes ≡ Some (name, rest) → (bytes ≡ name_bytes name ++ rest) × (name_fits name ≡ true)
     forth [] name rest h e = absurd (none_some e)
     forth (n ∷ bytes) name rest h e =
         let r = passed (leb 1 n && leb n 32 && leb n (length bytes)) _ _ e in
@@ -67,7 +68,7 @@ name_ways = record { forth = forth; back = back }
         let long : n ≡ length name = sym (length-take-le n bytes (leb-true n (length bytes) (and_right (leb 1 n && leb n 32) _ r.0))) ∙ ap length here in
         ((λ i. long i ∷ sym (take-append-drop n bytes) i) ∙ (λ i. length name ∷ (here i ++ behind i)), subst (λ (m : ℕ). (leb 1 m && leb m 32) ≡ true) long (and_left _ _ r.0))
 
-    back : (name : Name) (rest : List ℕ) → name_fits name ≡ true → name_from (name_bytes name ++ rest) ≡ some (name, rest)
+    back : (name : Name) (rest : List ℕ) → name_fits name ≡ true → name_from (name_bytes name ++ rest) ≡ Some (name, rest)
     back name rest f =
         rw (f, le-leb (length name) (length (name ++ rest)) (omega (arith, length-append name rest)), take-append_seam name rest, drop-append_seam name rest)
 
@@ -82,17 +83,17 @@ module _ {A : Type 0} (form : List ℕ → Option (A × List ℕ)) (written : A 
   fit_more n x xs f g =
       and_both _ _ (eq-eqb (suc (length xs)) (suc n) (ap suc (eqb-true (length xs) n (and_left _ _ g)))) (and_both _ _ f (and_right (eqb (length xs) n) _ g))
 
-  forth : (n : ℕ) (bytes : List ℕ) (xs : List A) (rest : List ℕ) → Bytes bytes → times n form bytes ≡ some (xs, rest) → (bytes ≡ concat_map written xs ++ rest) × (all_fit n xs ≡ true)
-  forth zero bytes xs rest h e = subst (λ (x : List A × List ℕ). (bytes ≡ concat_map written x.0 ++ x.1) × (all_fit 0 x.0 ≡ true)) (some-injective _ _ e) (refl, refl)
+  forth : (n : ℕ) (bytes : List ℕ) (xs : List A) (rest : List ℕ) → Bytes bytes → times n form bytes ≡ Some (xs, rest) → (bytes ≡ concat_map written xs ++ rest) × (all_fit n xs ≡ true)
+  forth zero bytes xs rest h e = subst (λ (x : List A × List ℕ). (bytes ≡ concat_map written x.0 ++ x.1) × (all_fit 0 x.0 ≡ true)) (Some-injective _ _ e) (refl, refl)
   forth (suc n) bytes xs rest h e =
       let s = steps (form bytes) _ (xs, rest) e in
       let t = steps (times n form s.rest) _ (xs, rest) s.more in
       let w = one.forth bytes s.first s.rest h s.read in
       let v = forth n s.rest t.first t.rest (left_bytes bytes (written s.first) s.rest h w.0) t.read in
-      subst (λ (x : List A × List ℕ). (bytes ≡ concat_map written x.0 ++ x.1) × (all_fit (suc n) x.0 ≡ true)) (some-injective _ _ t.more)
+      subst (λ (x : List A × List ℕ). (bytes ≡ concat_map written x.0 ++ x.1) × (all_fit (suc n) x.0 ≡ true)) (Some-injective _ _ t.more)
       (w.0 ∙ ap (λ (l : List ℕ). written s.first ++ l) v.0 ∙ sym (append_assoc (written s.first) (concat_map written t.first) t.rest), fit_more n s.first t.first w.1 v.1)
 
-  back : (n : ℕ) (xs : List A) (rest : List ℕ) → all_fit n xs ≡ true → times n form (concat_map written xs ++ rest) ≡ some (xs, rest)
+  back : (n : ℕ) (xs : List A) (rest : List ℕ) → all_fit n xs ≡ true → times n form (concat_map written xs ++ rest) ≡ Some (xs, rest)
   back zero [] rest f = refl
   back zero (x ∷ xs) rest f = absurd (omega (arith, eqb-true (suc (length xs)) 0 (and_left _ _ f)))
   back (suc n) [] rest f = absurd (omega (arith, eqb-true 0 (suc n) (and_left _ _ f)))

@@ -1,7 +1,7 @@
 -- A name's number is how many other names appear before it does.
 use mathlib.Core.Path.{◌≡◌, ap, ◌∙◌}
 use mathlib.Core.Bool.{false, cond}
-use mathlib.Core.Option.{none, some}
+use Rattle.std.specs.Prelude.{None, Some}
 use mathlib.Core.List.{List, [], ◌∷◌, ◌++◌}
 use lib.ListN.{length}
 use Rattle.map_file.specs.Form.{Name}
@@ -11,8 +11,8 @@ use Rattle.map_file.proofs.BookSame.{same_self}
 use Rattle.map_file.proofs.BookLists.{among_append, position_behind, first_stands}
 
 frame_behind : (names : List Name) (name : Name) (front rest : List Name) → names ≡ front ++ (name ∷ rest) → among name front ≡ false
-    → cond (among name names) (some (position name names)) none ≡ some (length front)
-frame_behind names name front rest e h = rw (e, among_append name front (name ∷ rest), h, same_self name) (ap some (position_behind name front rest h))
+    → cond (among name names) (Some (position name names)) None ≡ Some (length front)
+frame_behind names name front rest e h = rw (e, among_append name front (name ∷ rest), h, same_self name) (ap Some (position_behind name front rest h))
 
 pub by_first_appearance : ByFirstAppearance
 unfolding book

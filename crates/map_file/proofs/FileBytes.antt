@@ -2,7 +2,7 @@
 use Prim.Native.Nat.{ℕ}
 use mathlib.Core.Path.{◌≡◌, refl, ap, ◌∙◌}
 use mathlib.Core.Logic.{◌↔◌}
-use mathlib.Core.Option.{Option, none, some}
+use Rattle.std.specs.Prelude.{Option, None, Some}
 use mathlib.Core.List.{List}
 use lib.ListN.{length, drop}
 use Rattle.time.specs.Reply.{answer}
@@ -12,7 +12,7 @@ use Rattle.map_file.specs.Form.{Record, record_bytes, file_bytes, FileFits, reco
 use Rattle.map_file.specs.Laws.{Bytes}
 use Rattle.map_file.proofs.FormBothWays.{form_both_ways}
 
-module _ (bytes : List ℕ) (rs : List Record) (h : Bytes bytes) (e : records bytes ≡ some rs) where
+module _ (bytes : List ℕ) (rs : List Record) (h : Bytes bytes) (e : records bytes ≡ Some rs) where
   pub file_is : bytes ≡ file_bytes rs
   file_is = ((form_both_ways bytes rs h).0 e).0
 
@@ -25,10 +25,10 @@ module _ (bytes : List ℕ) (rs : List Record) (h : Bytes bytes) (e : records by
 
 -- ---- what is answered of the records
 
-pub answered : {A : Type 0} (call : List Record → A) (o : Option (List Record)) (a : A) → formed o call ≡ answer a → (rs : List Record) × ((o ≡ some rs) × (call rs ≡ a))
-answered call none a e = absurd (refusal_answer e)
-answered call (some rs) a e = (rs, (refl, answer_in e))
+pub answered : {A : Type 0} (call : List Record → A) (o : Option (List Record)) (a : A) → formed o call ≡ answer a → (rs : List Record) × ((o ≡ Some rs) × (call rs ≡ a))
+answered call None a e = absurd (refusal_answer e)
+answered call (Some rs) a e = (rs, (refl, answer_in e))
 
-pub count_answered : (bytes : List ℕ) (n : ℕ) → (record_count bytes ≡ answer n) ↔ ((rs : List Record) × ((records bytes ≡ some rs) × (length rs ≡ n)))
+pub count_answered : (bytes : List ℕ) (n : ℕ) → (record_count bytes ≡ answer n) ↔ ((rs : List Record) × ((records bytes ≡ Some rs) × (length rs ≡ n)))
 unfolding record_count
 count_answered bytes n = (answered (λ rs. length rs) (records bytes) n, λ w. ap (λ (o : Option (List Record)). formed o (λ rs. length rs)) w.1.0 ∙ ap answer w.1.1)

@@ -2,7 +2,7 @@
 use Prim.Native.Nat.{ℕ, ◌^◌}
 use mathlib.Core.Path.{◌≡◌, refl, sym, ap, ◌∙◌, subst}
 use mathlib.Core.Bool.{true, ◌&&◌}
-use mathlib.Core.Option.{Option, some}
+use Rattle.std.specs.Prelude.{Option, Some}
 use mathlib.Core.List.{List, [], ◌∷◌, ◌++◌, append_assoc, append-nil}
 use native.Mathlib.Omega.{arith}
 use borrow.Author.Tests.{lt-ltb, ltb-true, eq-eqb, eqb-true}
@@ -25,7 +25,7 @@ use Rattle.map_file.proofs.RecordWays.{record_ways}
 fixed_ways : (expected : List ℕ) → BothWays (fixed_from expected) (λ bytes. bytes) (λ bytes. same bytes expected)
 fixed_ways expected = record { forth = forth; back = back }
   where
-    forth : (bytes found rest : List ℕ) → Bytes bytes → fixed_from expected bytes ≡ some (found, rest) → (bytes ≡ found ++ rest) × (same found expected ≡ true)
+    forth : (bytes found rest : List ℕ) → Bytes bytes → fixed_from expected bytes ≡ Some (found, rest) → (bytes ≡ found ++ rest) × (same found expected ≡ true)
     forth bytes found rest h e =
         let r = passed (same (take (length expected) bytes) expected) _ _ e in
         let here : expected ≡ found = ap (λ x. x.0) r.1 in
@@ -33,18 +33,18 @@ fixed_ways expected = record { forth = forth; back = back }
         let behind : drop (length expected) bytes ≡ rest = ap (λ x. x.1) r.1 in
         (sym (take-append-drop (length expected) bytes) ∙ (λ i. front i ++ behind i), subst (λ (l : List ℕ). same l expected ≡ true) here (same_self expected))
 
-    back : (found rest : List ℕ) → same found expected ≡ true → fixed_from expected (found ++ rest) ≡ some (found, rest)
+    back : (found rest : List ℕ) → same found expected ≡ true → fixed_from expected (found ++ rest) ≡ Some (found, rest)
     back found rest f =
         let e : found ≡ expected = same_is found expected f in
         rw (e, take-append_seam expected rest, drop-append_seam expected rest, same_self expected)
 
 -- ---- nothing left over
 
-whole_read : {A : Type 0} (o : Option (A × List ℕ)) (a : A) → whole o ≡ some a → o ≡ some (a, [])
+whole_read : {A : Type 0} (o : Option (A × List ℕ)) (a : A) → whole o ≡ Some a → o ≡ Some (a, [])
 whole_read o a e =
     let s = steps o _ a e in
     let r = passed (eqb (length s.rest) 0) s.first a s.more in
-    s.read ∙ (λ i. some (r.1 i, empty s.rest (eqb-true (length s.rest) 0 r.0) i))
+    s.read ∙ (λ i. Some (r.1 i, empty s.rest (eqb-true (length s.rest) 0 r.0) i))
   where
     empty : (l : List ℕ) → length l ≡ 0 → l ≡ []
     empty [] e = refl
@@ -64,7 +64,7 @@ counted_bytes rs = number_bytes 2 (length rs) ++ concat_map record_bytes rs
 counted_ways : BothWays counted_from counted_bytes (λ rs. ltb (length rs) (2 ^ 16) && all record_fits rs)
 counted_ways = record { forth = forth; back = back }
   where
-    forth : (bytes : List ℕ) (rs : List Record) (rest : List ℕ) → Bytes bytes → counted_from bytes ≡ some (rs, rest) → (bytes ≡ counted_bytes rs ++ rest) × ((ltb (length rs) (2 ^ 16) && all record_fits rs) ≡ true)
+    forth : (bytes : List ℕ) (rs : List Record) (rest : List ℕ) → Bytes bytes → counted_from bytes ≡ Some (rs, rest) → (bytes ≡ counted_bytes rs ++ rest) × ((ltb (length rs) (2 ^ 16) && all record_fits rs) ≡ true)
     forth bytes rs rest h e =
         let n = steps (number_from 2 bytes) _ (rs, rest) e in
         let wn = (number_ways 2).forth bytes n.first n.rest h n.read in
@@ -74,7 +74,7 @@ counted_ways = record { forth = forth; back = back }
           and_both _ _ (subst (λ (k : ℕ). ltb k (2 ^ 16) ≡ true) count wn.1) (and_right (eqb (length rs) n.first) _ wr.1),
         )
 
-    back : (rs : List Record) (rest : List ℕ) → (ltb (length rs) (2 ^ 16) && all record_fits rs) ≡ true → counted_from (counted_bytes rs ++ rest) ≡ some (rs, rest)
+    back : (rs : List Record) (rest : List ℕ) → (ltb (length rs) (2 ^ 16) && all record_fits rs) ≡ true → counted_from (counted_bytes rs ++ rest) ≡ Some (rs, rest)
     back rs rest f =
         let body = concat_map record_bytes rs ++ rest in
         ap counted_from (append_assoc (number_bytes 2 (length rs)) (concat_map record_bytes rs) rest)
@@ -84,7 +84,7 @@ counted_ways = record { forth = forth; back = back }
 
 -- ---- a file
 
-forth : (bytes : List ℕ) (rs : List Record) → Bytes bytes → records bytes ≡ some rs → (bytes ≡ file_bytes rs) × FileFits rs
+forth : (bytes : List ℕ) (rs : List Record) → Bytes bytes → records bytes ≡ Some rs → (bytes ≡ file_bytes rs) × FileFits rs
 unfolding records file_bytes
 forth bytes rs h e =
     let m = steps (fixed_from mark_and_version bytes) (λ mark second. counted_from second) (rs, []) (whole_read _ rs e) in
@@ -96,10 +96,10 @@ forth bytes rs h e =
       record { count = ltb-true (length rs) (2 ^ 16) (and_left _ _ wr.1); each = and_right (ltb (length rs) (2 ^ 16)) _ wr.1 },
     )
 
-back : (bytes : List ℕ) (rs : List Record) → bytes ≡ file_bytes rs → FileFits rs → records bytes ≡ some rs
+back : (bytes : List ℕ) (rs : List Record) → bytes ≡ file_bytes rs → FileFits rs → records bytes ≡ Some rs
 unfolding records file_bytes
 back bytes rs e f =
-    let counted : counted_from (counted_bytes rs) ≡ some (rs, []) =
+    let counted : counted_from (counted_bytes rs) ≡ Some (rs, []) =
     ap counted_from (sym (append-nil (counted_bytes rs))) ∙ counted_ways.back rs [] (and_both _ _ (lt-ltb (length rs) (2 ^ 16) f.count) f.each) in
     ap records e
     ∙ ap whole (then_some (fixed_from mark_and_version (mark_and_version ++ counted_bytes rs)) (λ mark second. counted_from second) mark_and_version (counted_bytes rs) (rs, [])

@@ -2,7 +2,8 @@
 use Prim.Native.Nat.{ℕ, ◌+◌, ◌-◌, ◌*◌, ◌≤◌, ◌<◌}
 use mathlib.Core.Path.{◌≡◌, refl, sym, ap, ◌∙◌}
 use mathlib.Core.Bool.{true, false}
-use mathlib.Core.Option.{Option, none, some, some-injective}
+use Rattle.std.specs.Prelude.{Option, None, Some}
+use Rattle.time.proofs.Options.{Some-injective}
 use mathlib.Core.List.{List, ◌∷◌}
 use native.Mathlib.Omega.{arith}
 use borrow.Author.Tests.{le-leb, lt-leb, eq-eqb, ne_eqb}
@@ -19,11 +20,11 @@ module _ (bytes : List ℕ) where
   behind : length (drop 5 bytes) ≡ length bytes - 5
   behind = length-drop 5 bytes
 
-  pub head_unmarked : marked bytes ≡ false → records bytes ≡ none
+  pub head_unmarked : marked bytes ≡ false → records bytes ≡ None
   unfolding records
   head_unmarked e = rw e
 
-  pub head_cut : length bytes < 7 → records bytes ≡ none
+  pub head_cut : length bytes < 7 → records bytes ≡ None
   unfolding records
   head_cut l = both (marked bytes) (λ e. rw (e, lt-leb 2 (length (drop 5 bytes)) (omega (arith, behind)))) (λ e. rw e)
 
@@ -41,7 +42,7 @@ module _ (bytes : List ℕ) where
 -- ---- the answer
 
 module _ (bytes : List ℕ) where
-  pub count_none : records bytes ≡ none → refusal 18 nothing ≡ record_count bytes
+  pub count_none : records bytes ≡ None → refusal 18 nothing ≡ record_count bytes
   unfolding record_count
   count_none e = rw e
 
@@ -50,24 +51,24 @@ module _ (bytes : List ℕ) where
     all = times (counted bytes) record_from (drop 7 bytes)
 
     -- they do not have their form
-    pub count_cut : none ≡ end_of bytes all → refusal 18 nothing ≡ record_count bytes
+    pub count_cut : None ≡ end_of bytes all → refusal 18 nothing ≡ record_count bytes
     count_cut e = count_none (head_read bytes l m ∙ ap whole (end_none bytes all e))
 
-    module _ (e : ℕ) (h : some e ≡ end_of bytes all) where
+    module _ (e : ℕ) (h : Some e ≡ end_of bytes all) where
       -- bytes are left over
       pub count_over : (e ≡ length bytes → ⊥) → refusal 18 nothing ≡ record_count bytes
       count_over ne = count_none (head_read bytes l m ∙ go all h)
         where
-          go : (o : Option (List Record × List ℕ)) → some e ≡ end_of bytes o → whole o ≡ none
-          go none h = refl
-          go (some x) h = let w : e ≡ length bytes - length x.1 = some-injective _ _ h in rw (ne_eqb (length x.1) 0 (λ z. ne (omega arith)))
+          go : (o : Option (List Record × List ℕ)) → Some e ≡ end_of bytes o → whole o ≡ None
+          go None h = refl
+          go (Some x) h = let w : e ≡ length bytes - length x.1 = Some-injective _ _ h in rw (ne_eqb (length x.1) 0 (λ z. ne (omega arith)))
 
       pub count_is : e ≡ length bytes → answer (counted bytes) ≡ record_count bytes
       unfolding record_count
       count_is q = sym (ap (λ (o : Option (List Record)). formed o (λ rs. length rs)) (head_read bytes l m) ∙ go all refl h)
         where
-          go : (o : Option (List Record × List ℕ)) → all ≡ o → some e ≡ end_of bytes o → formed (whole o) (λ rs. length rs) ≡ answer (counted bytes)
-          go none r h = absurd (none_some (sym h))
-          go (some x) r h =
-              let w : e ≡ length bytes - length x.1 = some-injective _ _ h in
+          go : (o : Option (List Record × List ℕ)) → all ≡ o → Some e ≡ end_of bytes o → formed (whole o) (λ rs. length rs) ≡ answer (counted bytes)
+          go None r h = absurd (none_some (sym h))
+          go (Some x) r h =
+              let w : e ≡ length bytes - length x.1 = Some-injective _ _ h in
               rw (eq-eqb (length x.1) 0 (omega arith)) (ap answer (times_count record_from (counted bytes) (drop 7 bytes) x.0 x.1 r))

@@ -2,7 +2,8 @@
 use Prim.Native.Nat.{ℕ, zero, suc, ◌+◌, ◌-◌, ◌≤◌}
 use mathlib.Core.Path.{◌≡◌, refl, sym, ap, ◌∙◌}
 use mathlib.Core.Bool.{Bool, true, false, cond, ◌&&◌}
-use mathlib.Core.Option.{Option, none, some, some-injective}
+use Rattle.std.specs.Prelude.{Option, None, Some}
+use Rattle.time.proofs.Options.{Some-injective}
 use mathlib.Core.List.{List, [], ◌∷◌}
 use native.Mathlib.Omega.{arith}
 use lib.Dec.{leb}
@@ -14,10 +15,10 @@ use Rattle.map_file.specs.walks.Ends.{end_of}
 
 -- from some place on
 abbrev pub Leaves : {A : Type 0} → List ℕ → Option (A × List ℕ) → Type 0
-Leaves bytes none = Unit {0}
-Leaves bytes (some x) = (k : ℕ) × (x.1 ≡ drop k bytes)
+Leaves bytes None = Unit {0}
+Leaves bytes (Some x) = (k : ℕ) × (x.1 ≡ drop k bytes)
 
-cond_leaves : {A : Type 0} (bytes : List ℕ) (a : A) (k : ℕ) (b : Bool) → Leaves bytes (cond b (some (a, drop k bytes)) none)
+cond_leaves : {A : Type 0} (bytes : List ℕ) (a : A) (k : ℕ) (b : Bool) → Leaves bytes (cond b (Some (a, drop k bytes)) None)
 cond_leaves bytes a k true = (k, refl)
 cond_leaves bytes a k false = tt
 
@@ -29,13 +30,13 @@ number_leaves : (k : ℕ) (bytes : List ℕ) → Leaves bytes (number_from k byt
 number_leaves k bytes = cond_leaves bytes _ k (leb k (length bytes))
 
 further : {A : Type 0} (bytes rest : List ℕ) (k : ℕ) → rest ≡ drop k bytes → (o : Option (A × List ℕ)) → Leaves rest o → Leaves bytes o
-further bytes rest k e none l = tt
-further bytes rest k e (some x) l = (k + l.0, l.1 ∙ ap (drop l.0) e ∙ drop-drop l.0 k bytes)
+further bytes rest k e None l = tt
+further bytes rest k e (Some x) l = (k + l.0, l.1 ∙ ap (drop l.0) e ∙ drop-drop l.0 k bytes)
 
 then_leaves : {A B : Type 0} (bytes : List ℕ) (o : Option (A × List ℕ)) (next : A → List ℕ → Option (B × List ℕ)) → Leaves bytes o
     → ((a : A) (rest : List ℕ) → Leaves rest (next a rest)) → Leaves bytes (o and_then next)
-then_leaves bytes none next l h = tt
-then_leaves bytes (some x) next l h = further bytes x.1 l.0 l.1 (next x.0 x.1) (h x.0 x.1)
+then_leaves bytes None next l h = tt
+then_leaves bytes (Some x) next l h = further bytes x.1 l.0 l.1 (next x.0 x.1) (h x.0 x.1)
 
 times_leaves : {A : Type 0} (form : List ℕ → Option (A × List ℕ)) → ((bytes : List ℕ) → Leaves bytes (form bytes)) → (n : ℕ) (bytes : List ℕ) → Leaves bytes (times n form bytes)
 times_leaves form h zero bytes = (0, refl)
@@ -67,23 +68,23 @@ end_drop (b ∷ bytes) (suc k) = end_drop bytes k ∙ rw up
 -- something was read, and what is left begins at the end
 pub record Read {A : Type 0} (bytes : List ℕ) (e : ℕ) (o : Option (A × List ℕ)) : Type 0 where
   pub value : A
-  pub read : o ≡ some (value, drop e bytes)
+  pub read : o ≡ Some (value, drop e bytes)
   pub within : e ≤ length bytes
 
-end_read_lem : {A : Type 0} (bytes : List ℕ) (at e : ℕ) (o : Option (A × List ℕ)) → Leaves (drop at bytes) o → some e ≡ end_of bytes o → Read bytes e o
-end_read_lem bytes at e none l h = absurd (none_some (sym h))
-end_read_lem bytes at e (some x) l h =
-    let end : e ≡ length bytes - length x.1 = some-injective _ _ h in
+end_read_lem : {A : Type 0} (bytes : List ℕ) (at e : ℕ) (o : Option (A × List ℕ)) → Leaves (drop at bytes) o → Some e ≡ end_of bytes o → Read bytes e o
+end_read_lem bytes at e None l h = absurd (none_some (sym h))
+end_read_lem bytes at e (Some x) l h =
+    let end : e ≡ length bytes - length x.1 = Some-injective _ _ h in
     let rest : x.1 ≡ drop (at + l.0) bytes = l.1 ∙ drop-drop l.0 at bytes in
     let left : x.1 ≡ drop e bytes = rest ∙ end_drop bytes (at + l.0) ∙ ap (λ (r : List ℕ). drop (length bytes - length r) bytes) (sym rest) ∙ ap (λ (k : ℕ). drop k bytes) (sym end) in
-    record { value = x.0; read = λ i. some (x.0, left i); within = omega arith }
+    record { value = x.0; read = λ i. Some (x.0, left i); within = omega arith }
 
-pub name_read : (bytes : List ℕ) (at e : ℕ) → some e ≡ end_of bytes (name_from (drop at bytes)) → Read bytes e (name_from (drop at bytes))
+pub name_read : (bytes : List ℕ) (at e : ℕ) → Some e ≡ end_of bytes (name_from (drop at bytes)) → Read bytes e (name_from (drop at bytes))
 name_read bytes at e = end_read_lem bytes at e (name_from (drop at bytes)) (name_leaves (drop at bytes))
 
-pub record_read : (bytes : List ℕ) (at e : ℕ) → some e ≡ end_of bytes (record_from (drop at bytes)) → Read bytes e (record_from (drop at bytes))
+pub record_read : (bytes : List ℕ) (at e : ℕ) → Some e ≡ end_of bytes (record_from (drop at bytes)) → Read bytes e (record_from (drop at bytes))
 record_read bytes at e = end_read_lem bytes at e (record_from (drop at bytes)) (record_leaves (drop at bytes))
 
-pub end_none : {A : Type 0} (bytes : List ℕ) (o : Option (A × List ℕ)) → none ≡ end_of bytes o → o ≡ none
-end_none bytes none h = refl
-end_none bytes (some x) h = absurd (none_some h)
+pub end_none : {A : Type 0} (bytes : List ℕ) (o : Option (A × List ℕ)) → None ≡ end_of bytes o → o ≡ None
+end_none bytes None h = refl
+end_none bytes (Some x) h = absurd (none_some h)

@@ -1,7 +1,7 @@
 -- What a walk along the names of a file finds: the number of a name, and where the name of a number first appears.
 use mathlib.Core.Path.{◌≡◌, refl, sym, ap, ◌∙◌}
 use mathlib.Core.Bool.{true, false, cond}
-use mathlib.Core.Option.{Option, none, some, map}
+use Rattle.std.specs.Prelude.{Option, None, Some, option_map}
 use mathlib.Core.List.{List, [], ◌∷◌, ◌++◌}
 use Prim.Native.Nat.{ℕ, ◌+◌, ◌^◌, ◌≤◌, ◌<◌}
 use native.Mathlib.Omega.{arith}
@@ -25,9 +25,9 @@ module _ (bytes : List ℕ) (f : Formed bytes) where
   unfolding frame_in
   frame_in_lem name = ap (λ (o : Option (List Record)). formed o (λ rs. frame_of rs name)) f.form
 
-  part_in_lem : (k : ℕ) (o : Option Name) → name_of f.read k ≡ o → answer (map (part_of f.read) o) ≡ part_in bytes k
+  part_in_lem : (k : ℕ) (o : Option Name) → name_of f.read k ≡ o → answer (option_map (part_of f.read) o) ≡ part_in bytes k
   unfolding part_in
-  part_in_lem k o e = sym (ap (λ (r : Option (List Record)). formed r (λ rs. map (part_of rs) (name_of rs k))) f.form ∙ ap (λ (n : Option Name). answer (map (part_of f.read) n)) e)
+  part_in_lem k o e = sym (ap (λ (r : Option (List Record)). formed r (λ rs. option_map (part_of rs) (name_of rs k))) f.form ∙ ap (λ (n : Option Name). answer (option_map (part_of f.read) n)) e)
 
   -- the book, by the names in the order of the file
   book_in : book f.read ≡ numbered_all [] (names_in bytes)
@@ -39,23 +39,23 @@ module _ (bytes : List ℕ) (f : Formed bytes) where
   count_small i h = omega (arith, count_few (names_in bytes) i, names_length bytes f, f.fits.count)
 
   -- where the name is not the same as any
-  pub no_frame : (name : Name) (n : ℕ) → n ≡ length (names_in bytes) → among name (take n (names_in bytes)) ≡ false → answer none ≡ frame_in bytes name
+  pub no_frame : (name : Name) (n : ℕ) → n ≡ length (names_in bytes) → among name (take n (names_in bytes)) ≡ false → answer None ≡ frame_in bytes name
   no_frame name n e h =
       let absent : among name (book f.read) ≡ false =
       book_complete f.read name ∙ ap (among name) (sym (names_in_lem bytes f) ∙ sym (take-length (names_in bytes)) ∙ ap (λ (k : ℕ). take k (names_in bytes)) (sym e)) ∙ h in
       sym (frame_in_lem name ∙ rw absent refl)
 
   -- where as many have a number as there are
-  pub no_part : (frame n : ℕ) → n ≡ length (names_in bytes) → number_count (names_in bytes) n ≤ frame → answer none ≡ part_in bytes frame
+  pub no_part : (frame n : ℕ) → n ≡ length (names_in bytes) → number_count (names_in bytes) n ≤ frame → answer None ≡ part_in bytes frame
   no_part frame n e h =
       let all : numbered_all [] (take n (names_in bytes)) ≡ book f.read =
       ap (λ (k : ℕ). numbered_all [] (take k (names_in bytes))) e ∙ ap (numbered_all []) (take-length (names_in bytes)) ∙ sym book_in in
-      part_in_lem frame none (at_none frame (book f.read) (omega (arith, ap length all)))
+      part_in_lem frame None (at_none frame (book f.read) (omega (arith, ap length all)))
 
   -- where x stands behind the first i
   module _ (i : ℕ) (x : Name) (rest : List Name) (e : drop i (names_in bytes) ≡ x ∷ rest) where
     pub frame_here : (name : Name) → among name (take i (names_in bytes)) ≡ false → same name x ≡ true
-        → answer (some (number_count (names_in bytes) i)) ≡ frame_in bytes name
+        → answer (Some (number_count (names_in bytes) i)) ≡ frame_in bytes name
     frame_here name h s =
         let is : name ≡ x = same_is name x s in
         let split : appearances f.read ≡ take i (names_in bytes) ++ (name ∷ rest) =
@@ -73,7 +73,7 @@ module _ (bytes : List ℕ) (f : Formed bytes) where
         ap (λ (n : ℕ). (n, length x)) place
 
     pub part_first : (frame : ℕ) → number_count (names_in bytes) i ≤ frame → frame < number_count (names_in bytes) (i + 1)
-        → (at : ℕ) → get_or (places_in bytes) i 0 ≡ at → answer (some (at, length x)) ≡ part_in bytes frame
+        → (at : ℕ) → get_or (places_in bytes) i 0 ≡ at → answer (Some (at, length x)) ≡ part_in bytes frame
     part_first frame l g place p =
         let h : frame < cond (among x (take i (names_in bytes))) (number_count (names_in bytes) i) (number_count (names_in bytes) i + 1) =
         rw (count_more (names_in bytes) i x rest e) at g in
@@ -85,6 +85,6 @@ module _ (bytes : List ℕ) (f : Formed bytes) where
         let s = first_stands (take i (names_in bytes)) x rest a in
         let is : book f.read ≡ numbered_all [] (take i (names_in bytes)) ++ (x ∷ s.more) =
         book_in ∙ ap (numbered_all []) (split_here (names_in bytes) i x rest e) ∙ s.is in
-        let named : name_of f.read frame ≡ some x =
+        let named : name_of f.read frame ≡ Some x =
         ap (at_number frame) is ∙ ap (λ (k : ℕ). at_number k (numbered_all [] (take i (names_in bytes)) ++ (x ∷ s.more))) at ∙ at_behind x (numbered_all [] (take i (names_in bytes))) s.more in
-        ap (λ (q : ℕ × ℕ). answer (some q)) (sym (part_here a place p)) ∙ part_in_lem frame (some x) named)
+        ap (λ (q : ℕ × ℕ). answer (Some q)) (sym (part_here a place p)) ∙ part_in_lem frame (Some x) named)

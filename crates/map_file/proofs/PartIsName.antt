@@ -1,7 +1,8 @@
 -- The part of the file that is answered for a number lies within the file, and its bytes are the name.
 use mathlib.Core.Path.{◌≡◌, refl, sym, ap, subst, ◌∙◌}
 use mathlib.Core.Bool.{Bool, false, not}
-use mathlib.Core.Option.{Option, none, some, map, some-injective}
+use Rattle.std.specs.Prelude.{Option, None, Some, option_map}
+use Rattle.time.proofs.Options.{Some-injective}
 use mathlib.Core.List.{List, [], ◌∷◌}
 use Prim.Native.Nat.{ℕ, zero, suc, ◌+◌, ◌<◌}
 use native.Mathlib.Omega.{arith}
@@ -22,13 +23,13 @@ use Rattle.map_file.proofs.NamesWalk.{names_in_lem, places_in_lem, first_name, N
 use Rattle.map_file.proofs.NamesFormed.{formed_as}
 
 -- some value's image
-map_some : {A B : Type 0} (g : A → B) (o : Option A) (b : B) → map g o ≡ some b → (a : A) × ((o ≡ some a) × (g a ≡ b))
-map_some g none b e = absurd (none_some e)
-map_some g (some a) b e = (a, (refl, some-injective _ _ e))
+map_some : {A B : Type 0} (g : A → B) (o : Option A) (b : B) → option_map g o ≡ Some b → (a : A) × ((o ≡ Some a) × (g a ≡ b))
+map_some g None b e = absurd (none_some e)
+map_some g (Some a) b e = (a, (refl, Some-injective _ _ e))
 
 -- the name behind the first i has the number i
-drop_number : (i : ℕ) (names : List Name) (x : Name) (rest : List Name) → drop i names ≡ x ∷ rest → at_number i names ≡ some x
-drop_number zero (n ∷ names) x rest e = ap some (cc e)
+drop_number : (i : ℕ) (names : List Name) (x : Name) (rest : List Name) → drop i names ≡ x ∷ rest → at_number i names ≡ Some x
+drop_number zero (n ∷ names) x rest e = ap Some (cc e)
 drop_number zero [] x rest e = absurd (let w : ◌≡◌ {A = ℕ} 0 1 = cc in omega arith)
 drop_number (suc i) [] x rest e = absurd (let w : ◌≡◌ {A = ℕ} 0 1 = cc in omega arith)
 drop_number (suc i) (n ∷ names) x rest e = drop_number i names x rest e
@@ -47,42 +48,42 @@ stands bytes f (suc i) h =
     let next = next_name bytes s.at s.parent in
     record { at = next; parent = not s.parent; here = here_of bytes (suc i) next (not s.parent) (subst (λ (k : ℕ). NameStands bytes k next (not s.parent)) q s.here.next) h }
 
-module _ (bytes : List ℕ) (f : Formed bytes) (k : ℕ) (name : Name) (n : name_of f.read k ≡ some name) where
+module _ (bytes : List ℕ) (f : Formed bytes) (k : ℕ) (name : Name) (n : name_of f.read k ≡ Some name) where
   abbrev index : ℕ
   index = position name (appearances f.read)
 
-  stands_at : at_number index (names_in bytes) ≡ some name
+  stands_at : at_number index (names_in bytes) ≡ Some name
   stands_at =
       ap (at_number index) (names_in_lem bytes f) ∙ at_position name (appearances f.read) (sym (book_complete f.read name) ∙ at_among k (book f.read) name n)
 
-  part_name : (start count : ℕ) → part_of f.read name ≡ (start, count) → name_in bytes k ≡ answer (some name) → IsName bytes k start count
+  part_name : (start count : ℕ) → part_of f.read name ≡ (start, count) → name_in bytes k ≡ answer (Some name) → IsName bytes k start count
   part_name start count e h =
       let s = stands bytes f index (at_below index (names_in bytes) name stands_at) in
-      let is : name ≡ name_at bytes s.at = some-injective _ _ (sym stands_at ∙ drop_number index (names_in bytes) _ _ s.here.is) in
+      let is : name ≡ name_at bytes s.at = Some-injective _ _ (sym stands_at ∙ drop_number index (names_in bytes) _ _ s.here.is) in
       let long : count ≡ get_or bytes s.at 0 = sym (ap (λ (q : ℕ × ℕ). q.1) e) ∙ ap length is ∙ name_length bytes s.at s.here.within in
       let place : start ≡ suc s.at = sym (ap (λ (q : ℕ × ℕ). q.0) e) ∙ ap (λ (l : List ℕ). get_or l index 0) (sym (places_in_lem bytes f)) ∙ s.here.place in
       record {
         within = omega (arith, long, place, s.here.within);
-        name = h ∙ ap (λ (m : Name). answer (some m)) (is ∙ (λ i. take (sym long i) (drop (sym place i) bytes)));
+        name = h ∙ ap (λ (m : Name). answer (Some m)) (is ∙ (λ i. take (sym long i) (drop (sym place i) bytes)));
       }
 
 pub part_is_name : PartIsName
 unfolding name_in part_in
 part_is_name bytes k start count h e =
-    let r = answered (λ rs. map (part_of rs) (name_of rs k)) (records bytes) (some (start, count)) e in
+    let r = answered (λ rs. option_map (part_of rs) (name_of rs k)) (records bytes) (Some (start, count)) e in
     let n = map_some (part_of r.0) (name_of r.0 k) (start, count) r.1.1 in
     part_name bytes (formed_as bytes h r.0 r.1.0) k n.0 n.1.0 start count n.1.1
     (ap (λ (o : Option (List Record)). formed o (λ rs. name_of rs k)) r.1.0 ∙ ap answer n.1.0)
 
 -- where no part is answered, no name is handed back
-pub no_name : (bytes : List ℕ) (k : ℕ) → ((part : ℕ × ℕ) → part_in bytes k ≡ answer (some part) → ⊥) → handed_back (name_in bytes k) ≡ []
+pub no_name : (bytes : List ℕ) (k : ℕ) → ((part : ℕ × ℕ) → part_in bytes k ≡ answer (Some part) → ⊥) → handed_back (name_in bytes k) ≡ []
 unfolding name_in part_in
 no_name bytes k = go (records bytes)
   where
-    unnamed : (rs : List Record) (o : Option Name) → ((part : ℕ × ℕ) → answer (map (part_of rs) o) ≡ answer (some part) → ⊥) → handed_back (answer o) ≡ []
-    unnamed rs none h = refl
-    unnamed rs (some name) h = absurd (h (part_of rs name) refl)
+    unnamed : (rs : List Record) (o : Option Name) → ((part : ℕ × ℕ) → answer (option_map (part_of rs) o) ≡ answer (Some part) → ⊥) → handed_back (answer o) ≡ []
+    unnamed rs None h = refl
+    unnamed rs (Some name) h = absurd (h (part_of rs name) refl)
 
-    go : (o : Option (List Record)) → ((part : ℕ × ℕ) → formed o (λ rs. map (part_of rs) (name_of rs k)) ≡ answer (some part) → ⊥) → handed_back (formed o (λ rs. name_of rs k)) ≡ []
-    go none h = refl
-    go (some rs) h = unnamed rs (name_of rs k) h
+    go : (o : Option (List Record)) → ((part : ℕ × ℕ) → formed o (λ rs. option_map (part_of rs) (name_of rs k)) ≡ answer (Some part) → ⊥) → handed_back (formed o (λ rs. name_of rs k)) ≡ []
+    go None h = refl
+    go (Some rs) h = unnamed rs (name_of rs k) h

@@ -2,7 +2,8 @@
 use Prim.Native.Nat.{ℕ, ◌*◌, ◌^◌}
 use mathlib.Core.Path.{◌≡◌, refl, sym, ap, ◌∙◌, subst}
 use mathlib.Core.Bool.{Bool, true, ◌&&◌}
-use mathlib.Core.Option.{some, some-injective}
+use Rattle.std.specs.Prelude.{Some}
+use Rattle.time.proofs.Options.{Some-injective}
 use mathlib.Core.List.{List, ◌++◌, append_assoc}
 use borrow.Author.Tests.{eqb-true}
 use lib.Dec.{eqb, ltb}
@@ -41,7 +42,7 @@ module _ (r : Record) where
   pub pose_length : record_fits r ≡ true → length (concat_map (number_bytes 8) r.pose) ≡ 56
   pose_length h = length_concat (number_bytes 8) 8 (λ n. refl) r.pose ∙ ap (λ (k : ℕ). 8 * k) (seven_words h)
 
-forth : (bytes : List ℕ) (r : Record) (rest : List ℕ) → Bytes bytes → record_from bytes ≡ some (r, rest) → (bytes ≡ record_bytes r ++ rest) × (record_fits r ≡ true)
+forth : (bytes : List ℕ) (r : Record) (rest : List ℕ) → Bytes bytes → record_from bytes ≡ Some (r, rest) → (bytes ≡ record_bytes r ++ rest) × (record_fits r ≡ true)
 unfolding record_from
 forth bytes r rest h e =
     let c = steps (name_from bytes) _ (r, rest) e in
@@ -53,12 +54,12 @@ forth bytes r rest h e =
     let hp = left_bytes c.rest (name_bytes p.first) p.rest hc wp.0 in
     let ww = pose_ways.forth p.rest w.first w.rest hp w.read in
     let made : Record = record { child = c.first; parent = p.first; pose = w.first } in
-    subst (λ (x : Record × List ℕ). (bytes ≡ record_bytes x.0 ++ x.1) × (record_fits x.0 ≡ true)) (some-injective _ _ w.more) (
+    subst (λ (x : Record × List ℕ). (bytes ≡ record_bytes x.0 ++ x.1) × (record_fits x.0 ≡ true)) (Some-injective _ _ w.more) (
       wc.0 ∙ ap (λ (l : List ℕ). name_bytes c.first ++ l) (wp.0 ∙ ap (λ (l : List ℕ). name_bytes p.first ++ l) ww.0) ∙ sym (record_split made w.rest),
       fits_made made wc.1 wp.1 ww.1,
     )
 
-back : (r : Record) (rest : List ℕ) → record_fits r ≡ true → record_from (record_bytes r ++ rest) ≡ some (r, rest)
+back : (r : Record) (rest : List ℕ) → record_fits r ≡ true → record_from (record_bytes r ++ rest) ≡ Some (r, rest)
 unfolding record_from
 back r rest f =
     let names = name_fits r.child && name_fits r.parent in

@@ -1,7 +1,8 @@
 -- Two forms, one behind the other: the whole is read exactly where each is. Assumes nothing.
 use Prim.Native.Nat.{ℕ, zero, suc}
 use mathlib.Core.Path.{◌≡◌, refl, sym, ap, ◌∙◌}
-use mathlib.Core.Option.{Option, none, some, some-injective}
+use Rattle.std.specs.Prelude.{Option, None, Some}
+use Rattle.time.proofs.Options.{Some-injective}
 use mathlib.Core.List.{List}
 use lib.ListN.{length}
 use Rattle.buffer.proofs.Cases.{none_some}
@@ -10,20 +11,20 @@ use Rattle.map_file.specs.Form.{◌and_then◌, times}
 pub record Steps {A B : Type 0} (o : Option (A × List ℕ)) (next : A → List ℕ → Option B) (b : B) : Type 0 where
   pub first : A
   pub rest : List ℕ
-  pub read : o ≡ some (first, rest)
-  pub more : next first rest ≡ some b
+  pub read : o ≡ Some (first, rest)
+  pub more : next first rest ≡ Some b
 
-pub steps : {A B : Type 0} (o : Option (A × List ℕ)) (next : A → List ℕ → Option B) (b : B) → (o and_then next) ≡ some b → Steps o next b
-steps none next b e = absurd (none_some e)
-steps (some x) next b e = record { first = x.0; rest = x.1; read = refl; more = e }
+pub steps : {A B : Type 0} (o : Option (A × List ℕ)) (next : A → List ℕ → Option B) (b : B) → (o and_then next) ≡ Some b → Steps o next b
+steps None next b e = absurd (none_some e)
+steps (Some x) next b e = record { first = x.0; rest = x.1; read = refl; more = e }
 
-pub then_some : {A B : Type 0} (o : Option (A × List ℕ)) (next : A → List ℕ → Option B) (a : A) (rest : List ℕ) (b : B) → o ≡ some (a, rest) → next a rest ≡ some b → (o and_then next) ≡ some b
+pub then_some : {A B : Type 0} (o : Option (A × List ℕ)) (next : A → List ℕ → Option B) (a : A) (rest : List ℕ) (b : B) → o ≡ Some (a, rest) → next a rest ≡ Some b → (o and_then next) ≡ Some b
 then_some o next a rest b e h = rw e h
 
 -- as many are read as are asked for
-pub times_count : {A : Type 0} (form : List ℕ → Option (A × List ℕ)) (n : ℕ) (bytes : List ℕ) (xs : List A) (rest : List ℕ) → times n form bytes ≡ some (xs, rest) → length xs ≡ n
-times_count form zero bytes xs rest e = ap (λ x. length x.0) (sym (some-injective _ _ e))
+pub times_count : {A : Type 0} (form : List ℕ → Option (A × List ℕ)) (n : ℕ) (bytes : List ℕ) (xs : List A) (rest : List ℕ) → times n form bytes ≡ Some (xs, rest) → length xs ≡ n
+times_count form zero bytes xs rest e = ap (λ x. length x.0) (sym (Some-injective _ _ e))
 times_count form (suc n) bytes xs rest e =
     let one = steps (form bytes) _ (xs, rest) e in
     let rest = steps (times n form one.rest) _ (xs, rest) one.more in
-    ap (λ x. length x.0) (sym (some-injective _ _ rest.more)) ∙ ap suc (times_count form n one.rest rest.first rest.rest rest.read)
+    ap (λ x. length x.0) (sym (Some-injective _ _ rest.more)) ∙ ap suc (times_count form n one.rest rest.first rest.rest rest.read)

@@ -1,6 +1,6 @@
 -- The name book of a map file: the number of a name and the name of a number.
 use Rattle.std.specs.Prelude.{ℕ, zero, suc, ◌+◌, Bool, false, cond, ◌||◌, List, [], ◌∷◌, ◌++◌, length, get_or}
-use Rattle.std.proofs.Math.Option.{Option, none, some, map}
+use Rattle.std.specs.Prelude.{Option, None, Some, option_map}
 use Rattle.time.specs.Reply.{Reply}
 use Rattle.text.specs.Reading.{same}
 use Rattle.map_file.specs.Form.{Name, Record, records, formed}
@@ -35,14 +35,14 @@ position name (n ∷ ns) = cond (same name n) 0 (suc (position name ns))
 
 -- the name with a number
 abbrev pub at_number : ℕ → List Name → Option Name
-at_number k [] = none
-at_number zero (n ∷ ns) = some n
+at_number k [] = None
+at_number zero (n ∷ ns) = Some n
 at_number (suc k) (n ∷ ns) = at_number k ns
 
 -- ---- "answers both ways, with none for a name or number that the file doesn't give"
 
 abbrev pub frame_of : List Record → Name → Option ℕ
-frame_of rs name = cond (among name (book rs)) (some (position name (book rs))) none
+frame_of rs name = cond (among name (book rs)) (Some (position name (book rs))) None
 
 abbrev pub name_of : List Record → ℕ → Option Name
 name_of rs k = at_number k (book rs)
@@ -68,4 +68,4 @@ unfoldable pub name_in : List ℕ → ℕ → Reply (Option Name)
 name_in bytes k = formed (records bytes) (λ rs. name_of rs k)
 
 unfoldable pub part_in : List ℕ → ℕ → Reply (Option (ℕ × ℕ))
-part_in bytes k = formed (records bytes) (λ rs. map (part_of rs) (name_of rs k))
+part_in bytes k = formed (records bytes) (λ rs. option_map (part_of rs) (name_of rs k))

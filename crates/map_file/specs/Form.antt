@@ -1,6 +1,6 @@
 -- The form of a map file, from records to bytes and from bytes to records.
 use Rattle.std.specs.Prelude.{ℕ, zero, suc, ◌+◌, ◌*◌, ◌/◌, ◌%◌, ◌^◌, ◌<◌, ◌≡◌, Bool, true, cond, ◌&&◌, List, [], ◌∷◌, ◌++◌, eqb, leb, ltb, length, take, drop}
-use Rattle.std.proofs.Math.Option.{Option, none, some}
+use Rattle.std.specs.Prelude.{Option, None, Some}
 use Rattle.time.specs.Reply.{Reply, answer, refusal, nothing}
 use Rattle.text.specs.Reading.{same}
 use Rattle.buffer.specs.Map.{all}
@@ -59,13 +59,13 @@ pub record FileFits (rs : List Record) : Type 0 where
 -- one form behind another
 infixr 1 ◌and_then◌
 abbrev pub ◌and_then◌ : {A B : Type 0} → Option (A × List ℕ) → (A → List ℕ → Option B) → Option B
-none and_then next = none
-some x and_then next = next x.0 x.1
+None and_then next = None
+Some x and_then next = next x.0 x.1
 
 -- n times the same form
 abbrev pub times : {A : Type 0} → ℕ → (List ℕ → Option (A × List ℕ)) → List ℕ → Option (List A × List ℕ)
-times zero form bytes = some ([], bytes)
-times (suc n) form bytes = form bytes and_then λ a rest. times n form rest and_then λ more end. some (a ∷ more, end)
+times zero form bytes = Some ([], bytes)
+times (suc n) form bytes = form bytes and_then λ a rest. times n form rest and_then λ more end. Some (a ∷ more, end)
 
 -- the number that bytes are, little-endian
 abbrev pub number : List ℕ → ℕ
@@ -74,12 +74,12 @@ number (b ∷ bytes) = b + 256 * number bytes
 
 -- a number of k bytes
 abbrev pub number_from : ℕ → List ℕ → Option (ℕ × List ℕ)
-number_from k bytes = cond (leb k (length bytes)) (some (number (take k bytes), drop k bytes)) none
+number_from k bytes = cond (leb k (length bytes)) (Some (number (take k bytes), drop k bytes)) None
 
 -- "a length byte of 1 to 32 and that many bytes of any value"
 abbrev pub name_from : List ℕ → Option (Name × List ℕ)
-name_from [] = none
-name_from (n ∷ bytes) = cond (leb 1 n && leb n 32 && leb n (length bytes)) (some (take n bytes, drop n bytes)) none
+name_from [] = None
+name_from (n ∷ bytes) = cond (leb 1 n && leb n 32 && leb n (length bytes)) (Some (take n bytes, drop n bytes)) None
 
 -- "A record is a child name and a parent name, .. then seven f64"
 unfoldable pub record_from : List ℕ → Option (Record × List ℕ)
@@ -87,15 +87,15 @@ record_from bytes =
     name_from bytes and_then λ child second.
     name_from second and_then λ parent third.
     times 7 (number_from 8) third and_then λ pose rest.
-    some (record { child = child; parent = parent; pose = pose }, rest)
+    Some (record { child = child; parent = parent; pose = pose }, rest)
 
 -- these very bytes
 abbrev pub fixed_from : List ℕ → List ℕ → Option (List ℕ × List ℕ)
-fixed_from expected bytes = cond (same (take (length expected) bytes) expected) (some (expected, drop (length expected) bytes)) none
+fixed_from expected bytes = cond (same (take (length expected) bytes) expected) (Some (expected, drop (length expected) bytes)) None
 
 -- nothing is left over
 abbrev pub whole : {A : Type 0} → Option (A × List ℕ) → Option A
-whole read = read and_then λ a rest. cond (eqb (length rest) 0) (some a) none
+whole read = read and_then λ a rest. cond (eqb (length rest) 0) (Some a) None
 
 -- the records of a file; none for "a wrong mark, version, length byte, short file or bytes left over"
 unfoldable pub records : List ℕ → Option (List Record)
@@ -103,8 +103,8 @@ records bytes = whole (fixed_from mark_and_version bytes and_then λ mark second
 
 -- what is answered of the records; "18 for a file of wrong form"
 abbrev pub formed : {A : Type 0} → Option (List Record) → (List Record → A) → Reply A
-formed none call = refusal 18 nothing
-formed (some rs) call = answer (call rs)
+formed None call = refusal 18 nothing
+formed (Some rs) call = answer (call rs)
 
 -- how many records a file has
 unfoldable pub record_count : List ℕ → Reply ℕ

@@ -1,7 +1,7 @@
 -- Additions one by one: where all are answered with done, and where one is refused.
 use Prim.Native.Nat.{ℕ, suc, ◌+◌}
 use mathlib.Core.Path.{◌≡◌, refl, sym, ap, ◌∙◌}
-use mathlib.Core.Option.{Option, none, some}
+use Rattle.std.specs.Prelude.{Option, None, Some}
 use mathlib.Core.List.{List, [], ◌∷◌}
 use native.Mathlib.Omega.{arith}
 use lib.ListN.{take, drop}
@@ -34,11 +34,11 @@ pub record OneRefused (found : Store) (n : ℕ) (s : Store) (xs : List Addition)
   pub as_found : (add_all found n s xs).store ≡ found
 
 module _ (found : Store) where
-  pub all_added : (n : ℕ) (s : Store) (xs : List Addition) → (add_all found n s xs).record? ≡ none → AllAdded found n s xs
+  pub all_added : (n : ℕ) (s : Store) (xs : List Addition) → (add_all found n s xs).record? ≡ None → AllAdded found n s xs
   all_added n s [] e = record { reply = refl; each = refl; left = refl }
   all_added n s (a ∷ xs) e = by (add_of s a).reply refl (all_added (suc n) (add_of s a).store xs)
     where
-      by : (r : Reply Value) → (add_of s a).reply ≡ r → ((add_all found (suc n) (add_of s a).store xs).record? ≡ none → AllAdded found (suc n) (add_of s a).store xs)
+      by : (r : Reply Value) → (add_of s a).reply ≡ r → ((add_all found (suc n) (add_of s a).store xs).record? ≡ None → AllAdded found (suc n) (add_of s a).store xs)
           → AllAdded found n s (a ∷ xs)
       by (answer v) q ih =
           let rest = ih (rw q at e) in
@@ -49,12 +49,12 @@ module _ (found : Store) where
   abbrev Refused : ℕ → Store → List Addition → ℕ → Type 0
   Refused n s xs m = (index : ℕ) × (m ≡ n + index) × OneRefused found n s xs index
 
-  pub one_refused : (n : ℕ) (s : Store) (xs : List Addition) (m : ℕ) → (add_all found n s xs).record? ≡ some m → Refused n s xs m
+  pub one_refused : (n : ℕ) (s : Store) (xs : List Addition) (m : ℕ) → (add_all found n s xs).record? ≡ Some m → Refused n s xs m
   one_refused n s [] m e = absurd (none_some e)
   one_refused n s (a ∷ xs) m e = by (add_of s a).reply refl (one_refused (suc n) (add_of s a).store xs m)
     where
       by : (r : Reply Value) → (add_of s a).reply ≡ r
-          → ((add_all found (suc n) (add_of s a).store xs).record? ≡ some m → Refused (suc n) (add_of s a).store xs m) → Refused n s (a ∷ xs) m
+          → ((add_all found (suc n) (add_of s a).store xs).record? ≡ Some m → Refused (suc n) (add_of s a).store xs m) → Refused n s (a ∷ xs) m
       by (answer v) q ih =
           let later = ih (rw q at e) in
           let rest = later.2 in (
@@ -73,7 +73,7 @@ module _ (found : Store) where
             },
           )
       by (refusal k c) q ih =
-          let here : some n ≡ some m = rw q at e in
+          let here : Some n ≡ Some m = rw q at e in
           let same : n ≡ m = cc here in (
             0,
             omega (arith, same),
@@ -85,13 +85,13 @@ module _ (found : Store) where
   refused_as_found_lem n s xs k c e = by (add_all found n s xs).record? refl
     where
       by : (r : Option ℕ) → (add_all found n s xs).record? ≡ r → (add_all found n s xs).store ≡ found
-      by none q = absurd (refusal_answer (sym e ∙ (all_added n s xs q).reply))
-      by (some m) q = (one_refused n s xs m q).2.as_found
+      by None q = absurd (refusal_answer (sym e ∙ (all_added n s xs q).reply))
+      by (Some m) q = (one_refused n s xs m q).2.as_found
 
   -- done is answered where no record is refused
   pub done_added : (n : ℕ) (s : Store) (xs : List Addition) → (add_all found n s xs).reply ≡ answer done → AllAdded found n s xs
   done_added n s xs e = by (add_all found n s xs).record? refl
     where
       by : (r : Option ℕ) → (add_all found n s xs).record? ≡ r → AllAdded found n s xs
-      by none q = all_added n s xs q
-      by (some m) q = absurd (refusal_answer (sym (one_refused n s xs m q).2.is ∙ e))
+      by None q = all_added n s xs q
+      by (Some m) q = absurd (refusal_answer (sym (one_refused n s xs m q).2.is ∙ e))

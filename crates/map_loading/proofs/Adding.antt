@@ -2,7 +2,7 @@
 use Prim.Native.Nat.{ℕ, suc, ◌+◌, ◌^◌, ◌≤◌, ◌<◌}
 use mathlib.Core.Path.{◌≡◌, refl, sym, ap, ◌∙◌, subst}
 use mathlib.Core.Bool.{true}
-use mathlib.Core.Option.{none, some}
+use Rattle.std.specs.Prelude.{None, Some}
 use mathlib.Core.List.{List, [], ◌∷◌}
 use native.Mathlib.Numerals.{add-one}
 use native.Mathlib.Omega.{arith}
@@ -82,10 +82,10 @@ module _ {bytes : List ℕ} {found : Store} {count : ℕ} {s : Store} {places : 
   adding_cleared = ap (λ (L : Limits). stored L []) a.held.limits ∙ sym a.empty
 
   -- none is left
-  pub adding_ends : count ≤ k → load_of found bytes ≡ record { record? = none; reply = answer done; store = s }
+  pub adding_ends : count ≤ k → load_of found bytes ≡ record { record? = None; reply = answer done; store = s }
   adding_ends h = by a.left refl
     where
-      by : (left : List Record) → a.left ≡ left → load_of found bytes ≡ record { record? = none; reply = answer done; store = s }
+      by : (left : List Record) → a.left ≡ left → load_of found bytes ≡ record { record? = None; reply = answer done; store = s }
       by [] e = a.rest ∙ ap (λ (l : List Record). add_all found k s (additions_after names l)) e
       by (r ∷ more) e = absurd (omega (arith, a.number, ap length e))
 
@@ -148,14 +148,14 @@ module _ {bytes : List ℕ} {found : Store} {count : ℕ} {s : Store} {places : 
       load_after = load_is ∙ ap after (sym (e ∙ ap (add_of s) new_is))
 
       -- refused, it leaves the store, and the load is its refusal
-      pub adding_refused : (o.reply ≡ answer done → ⊥) → (o.store ≡ s) × (load_of found bytes ≡ record { record? = some k; reply = o.reply; store = found })
+      pub adding_refused : (o.reply ≡ answer done → ⊥) → (o.store ≡ s) × (load_of found bytes ≡ record { record? = Some k; reply = o.reply; store = found })
       adding_refused not_done = by (add a.limits a.tree new) outcome_is
         where
-          by : (q : Reply Tree) → o ≡ written s a.limits q → (o.store ≡ s) × (load_of found bytes ≡ record { record? = some k; reply = o.reply; store = found })
+          by : (q : Reply Tree) → o ≡ written s a.limits q → (o.store ≡ s) × (load_of found bytes ≡ record { record? = Some k; reply = o.reply; store = found })
           by (answer u) w = absurd (not_done (ap (λ (x : Outcome). x.reply) w))
           by (refusal n c) w = (
             ap (λ (x : Outcome). x.store) w,
-            load_after ∙ ap after w ∙ ap (λ (x : Reply Value). record { record? = some k; reply = x; store = found }) (sym (ap (λ (x : Outcome). x.reply) w)),
+            load_after ∙ ap after w ∙ ap (λ (x : Reply Value). record { record? = Some k; reply = x; store = found }) (sym (ap (λ (x : Outcome). x.reply) w)),
           )
 
       -- answered, the next record is behind it

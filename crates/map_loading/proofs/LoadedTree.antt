@@ -2,7 +2,7 @@
 use Prim.Native.Nat.{ℕ, ◌*◌, ◌^◌, ◌≤◌, ◌<◌}
 use mathlib.Core.Path.{◌≡◌, refl, ap, ◌∙◌}
 use mathlib.Core.Bool.{Bool, true, false, not, ◌&&◌}
-use mathlib.Core.Option.{Option, none, some}
+use Rattle.std.specs.Prelude.{Option, None, Some}
 use mathlib.Core.List.{List, []}
 use native.Mathlib.Omega.{arith}
 use lib.Dec.{eqb, leb, ltb}
@@ -60,22 +60,22 @@ module _ (L : Limits) (t : Tree) (names : List Name) (ok : LoadedSoFar L t names
   abbrev new : Addition
   new = addition_after names r
 
-  held_static : (e : Edge) → get t new.child ≡ some e → is_static e.kind ≡ true
+  held_static : (e : Edge) → get t new.child ≡ Some e → is_static e.kind ≡ true
   held_static e g = (all_get (λ x. is_static x.1.kind) t ((rising_is t).0 ok.rules.rises)).0 ok.static new.child e g
 
   -- ---- no 8 and no 17
 
   same_kind_lem : (held : Option Edge) → get t new.child ≡ held → other_kind held Static ≡ false
-  same_kind_lem none g = refl
-  same_kind_lem (some e) g = of e.kind (held_static e g)
+  same_kind_lem None g = refl
+  same_kind_lem (Some e) g = of e.kind (held_static e g)
     where
       of : (k : Kind) → is_static k ≡ true → not (same_kind k Static) ≡ false
       of Static h = refl
       of Dynamic h = absurd (false_true h)
 
   one_sample : (held : Option Edge) → get t new.child ≡ held → length (updated_edge L.age new held).samples ≡ 1
-  one_sample none g = ap length (insert_empty L.age 0 new.pose)
-  one_sample (some e) g =
+  one_sample None g = ap length (insert_empty L.age 0 new.pose)
+  one_sample (Some e) g =
       let sound : instants_sound L.age L.capacity e.kind e.samples ≡ true = (all_get _ t ((rising_is t).0 ok.rules.rises)).0 ok.rules.instants new.child e g in
       of e.kind (held_static e g) sound
     where
@@ -116,8 +116,8 @@ module _ (L : Limits) (t : Tree) (names : List Name) (ok : LoadedSoFar L t names
   -- ---- what an answered addition leaves
 
   edge_static : (held : Option Edge) → get t new.child ≡ held → is_static (updated_edge L.age new held).kind ≡ true
-  edge_static none g = refl
-  edge_static (some e) g = held_static e g
+  edge_static None g = refl
+  edge_static (Some e) g = held_static e g
 
   child_small : new.child < 2 ^ 32
   child_small = omega (arith, names_few ok, position_most r.child names)

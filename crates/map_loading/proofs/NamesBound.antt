@@ -2,7 +2,7 @@
 use Prim.Native.Nat.{ℕ, ◌*◌, ◌≤◌, ◌<◌}
 use mathlib.Core.Path.{◌≡◌, refl, ap, ◌∙◌}
 use mathlib.Core.Bool.{true, ◌&&◌}
-use mathlib.Core.Option.{Option, none, some}
+use Rattle.std.specs.Prelude.{Option, None, Some}
 use mathlib.Core.List.{List}
 use native.Mathlib.Omega.{arith}
 use lib.Dec.{ltb}
@@ -42,7 +42,7 @@ below_put : (n k : ℕ) (e : Edge) (t : Tree) → k < n → e.parent < n → Fra
 below_put n k e t c p h =
     all_put (λ x. ltb x.0 n && ltb x.1.parent n) k e t (and_both _ _ (lt-ltb k n c) (lt-ltb e.parent n p)) h
 
-below_held : (n k : ℕ) (e : Edge) (t : Tree) → rising t ≡ true → FramesBelow n t → get t k ≡ some e → (k < n) × (e.parent < n)
+below_held : (n k : ℕ) (e : Edge) (t : Tree) → rising t ≡ true → FramesBelow n t → get t k ≡ Some e → (k < n) × (e.parent < n)
 below_held n k e t r h g =
     let p : (ltb k n && ltb e.parent n) ≡ true = (all_get (λ x. ltb x.0 n && ltb x.1.parent n) t ((rising_is t).0 r)).0 h k e g in
     (ltb-true k n (and_left _ _ p), ltb-true e.parent n (and_right (ltb k n) _ p))
@@ -80,8 +80,8 @@ module _ (L : Limits) (t u : Tree) (names : List Name) (child parent : Name) (po
 
   -- what is left where the child is held, or is not
   bound : (held : Option Edge) → get t new.child ≡ held → Accepted L t new held u → FramesBelow (length after) u × (length after ≤ 2 * length u)
-  bound none g acc =
-      let e = updated_edge L.age new none in
+  bound None g acc =
+      let e = updated_edge L.age new None in
       let one = numbered_longer child names in
       let two = numbered_longer parent (numbered names child) in
       let c : new.child < length after = let p = position_below child names in let q = two.0 in omega arith in
@@ -91,15 +91,15 @@ module _ (L : Limits) (t u : Tree) (names : List Name) (child parent : Name) (po
         below_put (length after) new.child e t c p (below_up (length names) (length after) t more h),
         let n = length_put_new new.child e t g in let a = one.1 in let b = two.1 in omega arith,
       )
-  bound (some e) g acc =
+  bound (Some e) g acc =
       let here = below_held (length names) new.child e t r h g in
       let first : numbered names child ≡ names = numbered_held child names here.0 in
       let held : e.parent ≡ position parent names = acc.suits.0 ∙ ap (λ (ns : List Name). position parent ns) first in
       let above : position parent names < length names = let l = here.1 in omega (arith, held) in
       let same : after ≡ names = ap (λ (ns : List Name). numbered ns parent) first ∙ numbered_held parent names above in
       rw (acc.left, same) (
-        below_put (length names) new.child (updated_edge L.age new (some e)) t here.0 here.1 h,
-        let n = length_put_held new.child (updated_edge L.age new (some e)) e t ((rising_is t).0 r) g in omega arith,
+        below_put (length names) new.child (updated_edge L.age new (Some e)) t here.0 here.1 h,
+        let n = length_put_held new.child (updated_edge L.age new (Some e)) e t ((rising_is t).0 r) g in omega arith,
       )
 
   -- the frames stay numbers of names, and the names at most two to an edge

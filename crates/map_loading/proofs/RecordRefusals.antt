@@ -1,7 +1,7 @@
 -- A record is refused with 7, 3, 4, 5, 6 or 16 alone.
 use Prim.Native.Nat.{ℕ, suc}
 use mathlib.Core.Path.{◌≡◌, refl, sym, ap, subst, ◌∙◌}
-use mathlib.Core.Option.{some}
+use Rattle.std.specs.Prelude.{Some}
 use mathlib.Core.List.{List, [], ◌∷◌}
 use Rattle.time.specs.Reply.{Reply, answer, refusal}
 use Rattle.buffer.proofs.Cases.{none_some}
@@ -20,7 +20,7 @@ use Rattle.map_loading.proofs.LoadedTree.{LoadedSoFar, refused_only, loaded_more
 
 -- what is said of a load that refuses a record
 abbrev Listed : Loading → Type 0
-Listed w = (m : ℕ) → w.record? ≡ some m → RefusedWith w.reply laws.record_refusals
+Listed w = (m : ℕ) → w.record? ≡ Some m → RefusedWith w.reply laws.record_refusals
 
 module _ (found : Store) where
   -- the load that the rest is, once the first addition has this outcome

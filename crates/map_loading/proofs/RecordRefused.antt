@@ -1,7 +1,7 @@
 -- A refused record: those before it are added one by one, it gets that refusal, and the store is as found.
 use Prim.Native.Nat.{ℕ}
 use mathlib.Core.Path.{◌≡◌, subst}
-use mathlib.Core.Option.{some}
+use Rattle.std.specs.Prelude.{Some}
 use mathlib.Core.List.{List}
 use native.Mathlib.Omega.{arith}
 use Rattle.buffer.proofs.Cases.{none_some}
@@ -12,7 +12,7 @@ use Rattle.map_loading.specs.Laws.{FirstRefused, RecordRefused}
 use Rattle.map_loading.proofs.AddAll.{OneRefused, one_refused}
 use Rattle.map_loading.proofs.LoadCases.{Load, none_read, read, load_cases}
 
-refused_first : (s : Store) (bytes : List ℕ) (n : ℕ) (rs : List Record) → records bytes ≡ some rs → load_of s bytes ≡ add_all s 0 s (additions rs)
+refused_first : (s : Store) (bytes : List ℕ) (n : ℕ) (rs : List Record) → records bytes ≡ Some rs → load_of s bytes ≡ add_all s 0 s (additions rs)
     → OneRefused s 0 s (additions rs) n → FirstRefused s bytes n
 refused_first s bytes n rs form l one = record {
   read = rs;

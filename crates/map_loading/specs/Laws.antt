@@ -1,6 +1,6 @@
 -- What holds of loading. Proved in proofs/ under the same names.
 use Rattle.std.specs.Prelude.{ℕ, ◌≡◌, Bool, true, false, not, List, [], ◌∷◌, take, drop}
-use Rattle.std.proofs.Math.Option.{Option, none, some}
+use Rattle.std.specs.Prelude.{Option, None, Some}
 use Rattle.time.specs.Reply.{Carried, Reply, answer, refusal, nothing}
 use Rattle.time.specs.Order.{Dues, when, first_due, refused}
 use Rattle.registry.specs.Tree.{Addition, holds_no_frame, member}
@@ -16,7 +16,7 @@ use Rattle.map_loading.specs.Loading.{additions, load_of}
 -- done: the file's records are added one by one, each addition answered with done, and the store is the one that they leave
 pub record AddedOneByOne (s : Store) (bytes : List ℕ) : Type 0 where
   pub read : List Record
-  pub form : records bytes ≡ some read
+  pub form : records bytes ≡ Some read
   pub each : accepted add_of s (additions read) ≡ additions read
   pub left : (load_of s bytes).store ≡ run add_of s (additions read)
 
@@ -26,7 +26,7 @@ DoneIsAdditions = (s : Store) (bytes : List ℕ) → (load_of s bytes).reply ≡
 -- record n refused: those before it are added one by one with done, it gets that refusal, and the store is as found
 pub record FirstRefused (s : Store) (bytes : List ℕ) (n : ℕ) : Type 0 where
   pub read : List Record
-  pub form : records bytes ≡ some read
+  pub form : records bytes ≡ Some read
   pub before : accepted add_of s (take n (additions read)) ≡ take n (additions read)
   pub refused : Addition
   pub behind : List Addition
@@ -35,7 +35,7 @@ pub record FirstRefused (s : Store) (bytes : List ℕ) (n : ℕ) : Type 0 where
   pub as_found : (load_of s bytes).store ≡ s
 
 abbrev pub RecordRefused : Type 0
-RecordRefused = (s : Store) (bytes : List ℕ) (n : ℕ) → (load_of s bytes).record? ≡ some n → FirstRefused s bytes n
+RecordRefused = (s : Store) (bytes : List ℕ) (n : ℕ) → (load_of s bytes).record? ≡ Some n → FirstRefused s bytes n
 
 -- every refusal leaves the store as found
 abbrev pub RefusedAsFound : Type 0
@@ -52,8 +52,8 @@ load_order = lent (19 ∷ 18 ∷ [])
 
 -- there is none
 abbrev pub is_none : {A : Type 0} → Option A → Bool
-is_none none = true
-is_none (some a) = false
+is_none None = true
+is_none (Some a) = false
 
 -- 18: the file does not have the form; 19: the store holds a frame
 unfoldable pub load_due : Store → List ℕ → Dues
@@ -61,8 +61,8 @@ load_due s bytes = lent_due s ((18, when (is_none (records bytes)) nothing) ∷ 
 
 -- the first of 1, 2, 19 and 18 that is due is answered, as no record's; where none is due, done or a record's refusal is
 pub record LoadFirstDue : Type 0 where
-  pub whole : (s : Store) (bytes : List ℕ) → (load_of s bytes).record? ≡ none → refused (load_of s bytes).reply ≡ first_due (load_due s bytes) load_order
-  pub of_record : (s : Store) (bytes : List ℕ) (n : ℕ) → (load_of s bytes).record? ≡ some n → first_due (load_due s bytes) load_order ≡ none
+  pub whole : (s : Store) (bytes : List ℕ) → (load_of s bytes).record? ≡ None → refused (load_of s bytes).reply ≡ first_due (load_due s bytes) load_order
+  pub of_record : (s : Store) (bytes : List ℕ) (n : ℕ) → (load_of s bytes).record? ≡ Some n → first_due (load_due s bytes) load_order ≡ None
 
 -- a record is refused with 7, 3, 4, 5, 6 or 16 alone: all are static and a row holds at least one sample, so that neither 8 nor 17 comes
 abbrev pub record_refusals : List ℕ
@@ -75,4 +75,4 @@ pub record RefusedWith (r : Reply Value) (numbers : List ℕ) : Type 0 where
   pub listed : member number numbers ≡ true
 
 abbrev pub RecordRefusals : Type 0
-RecordRefusals = (s : Store) (bytes : List ℕ) (n : ℕ) → (load_of s bytes).record? ≡ some n → RefusedWith (load_of s bytes).reply record_refusals
+RecordRefusals = (s : Store) (bytes : List ℕ) (n : ℕ) → (load_of s bytes).record? ≡ Some n → RefusedWith (load_of s bytes).reply record_refusals

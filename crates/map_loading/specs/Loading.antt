@@ -1,6 +1,6 @@
 -- Loading a map into a store: what is answered, and every word afterwards.
 use Rattle.std.specs.Prelude.{ℕ, suc, not, List, [], ◌∷◌, map, Float}
-use Rattle.std.proofs.Math.Option.{Option, none, some}
+use Rattle.std.specs.Prelude.{Option, None, Some}
 use Rattle.time.specs.declared.stamp.Stamp.TheVariants.{Static}
 use Rattle.time.specs.Reply.{Reply, answer, refusal, nothing, refuse}
 use Rattle.registry.specs.Tree.{Addition, addition, holds_no_frame}
@@ -35,17 +35,17 @@ additions rs = map (addition_of (book rs)) rs
 -- found"; else the load goes on
 abbrev pub unless_refused : Store → ℕ → Reply Value → Loading → Loading
 unless_refused found n (answer v) next = next
-unless_refused found n (refusal k c) next = record { record? = some n; reply = refusal k c; store = found }
+unless_refused found n (refusal k c) next = record { record? = Some n; reply = refusal k c; store = found }
 
 -- the additions of record n and of those behind it, one by one
 abbrev pub add_all : Store → ℕ → Store → List Addition → Loading
-add_all found n s [] = record { record? = none; reply = answer done; store = s }
+add_all found n s [] = record { record? = None; reply = answer done; store = s }
 add_all found n s (a ∷ more) = unless_refused found n (add_of s a).reply (add_all found (suc n) (add_of s a).store more)
 
 -- the records are added, or nothing is where one of 1, 2, 19 and 18 is due
 abbrev pub load_into : Store → Reply (List Addition) → Loading
 load_into s (answer xs) = add_all s 0 s xs
-load_into s (refusal k c) = record { record? = none; reply = refusal k c; store = s }
+load_into s (refusal k c) = record { record? = None; reply = refusal k c; store = s }
 
 -- 1 and 2, then 19: "The store must hold no frame", then 18, then the records: "Both follow 1 and 2, with 19 first, and precede any record's own refusal"
 unfoldable pub load_of : Store → List ℕ → Loading
@@ -55,12 +55,12 @@ load_of s bytes = load_into s (on_tree s (λ L t. refuse (not (holds_no_frame t)
 
 -- the number of the record whose refusal it is, if it is a record's
 abbrev pub record_of : Loaded → Option ℕ
-record_of (loaded.Record n a) = some n
-record_of loaded.Done = none
-record_of loaded.Sizes = none
-record_of loaded.UnsoundStore = none
-record_of loaded.StoreInUse = none
-record_of loaded.MapForm = none
+record_of (loaded.Record n a) = Some n
+record_of loaded.Done = None
+record_of loaded.Sizes = None
+record_of loaded.UnsoundStore = None
+record_of loaded.StoreInUse = None
+record_of loaded.MapForm = None
 
 -- the reply
 abbrev pub load_reply : Loaded → Reply Value

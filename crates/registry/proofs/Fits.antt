@@ -2,7 +2,7 @@
 use Prim.Native.Nat.{ℕ}
 use mathlib.Core.Path.{◌≡◌, refl}
 use mathlib.Core.Bool.{Bool, true, false, not, cond}
-use mathlib.Core.Option.{Option, none, some}
+use Rattle.std.specs.Prelude.{Option, None, Some}
 use mathlib.Core.List.{List, [], ◌∷◌, ◌++◌}
 use lib.Dec.{eqb, ltb}
 use lib.Ieee.{lt}
@@ -81,10 +81,10 @@ module _ (R : ℕ → Carried → Bool) (infinite : R 13 nothing ≡ true) (shor
   inverse_only a = on_then _ (normalize_only a.rotation) (λ q. inverse_with_rotation_only a (conjugate q))
 
   joined_only : (a b : Option Isometry) → Only R (joined a b)
-  joined_only none none = answered refl
-  joined_only none (some y) = answered refl
-  joined_only (some x) none = inverse_only x
-  joined_only (some x) (some y) = on_then _ (inverse_only x) (λ back. answered refl)
+  joined_only None None = answered refl
+  joined_only None (Some y) = answered refl
+  joined_only (Some x) None = inverse_only x
+  joined_only (Some x) (Some y) = on_then _ (inverse_only x) (λ back. answered refl)
 
   pub combined_fits : (a b : Option Isometry) → Fits R (answers of_pose) (combined a b)
   combined_fits a b = on_then _ (joined_only a b) (λ out. on_then _ (finite_only R far out) (λ p. answered refl))
@@ -107,7 +107,7 @@ module _ (R : ℕ → Carried → Bool) (i : ℕ) where
 
   pub fold_only : (below : Option Isometry) (hs : List Hop) → Every Serves hs → Only R (fold below hs i)
   fold_only below [] s = answered refl
-  fold_only below (h ∷ hs) s = on_then _ s.0 (λ p. fold_only (some (onto p below)) hs s.1)
+  fold_only below (h ∷ hs) s = on_then _ s.0 (λ p. fold_only (Some (onto p below)) hs s.1)
 
   pub lookup_known : R 10 nothing ≡ true → R 13 nothing ≡ true → R 14 nothing ≡ true → R 3 nothing ≡ true
       → (t : Tree) → ((xs : List ℕ) → Every Serves (hops t xs)) → (f g : ℕ) → Fits R (answers of_pose) (ask_known t f g (lookup_along i) (lookup_apart i))
@@ -116,8 +116,8 @@ module _ (R : ℕ → Carried → Bool) (i : ℕ) where
       (on_then _ (folded (side t f g)) (λ x. on_then _ (folded (side t g f)) (combined_fits R infinite short far x)))
       (on_then _ (folded (chain t f)) (λ x. on_then _ (folded (chain t g)) (λ y. refused disconnected)))
     where
-      folded : (xs : List ℕ) → Only R (fold none (hops t xs) i)
-      folded xs = fold_only none (hops t xs) (s xs)
+      folded : (xs : List ℕ) → Only R (fold None (hops t xs) i)
+      folded xs = fold_only None (hops t xs) (s xs)
 
 -- ---- latest common time
 
@@ -125,7 +125,7 @@ module _ (R : ℕ → Carried → Bool) (uncommon : (child : ℕ) (range : Optio
   span_only : (child : ℕ) (k : Coverage) {rest : Reply (List Span)} → Only R rest → Only R (span_then child k rest)
   span_only child AllTime h = h
   span_only child (Range start end) h = on_then _ h (λ xs. answered refl)
-  span_only child Empty h = refused (uncommon child none)
+  span_only child Empty h = refused (uncommon child None)
 
   spans_only : (hs : List Hop) → Only R (spans hs)
   spans_only [] = answered refl
@@ -135,7 +135,7 @@ module _ (R : ℕ → Carried → Bool) (uncommon : (child : ℕ) (range : Optio
   meet_fits [] = answered refl
   meet_fits (x ∷ xs) =
       let late = latest_start x xs in
-      on_refuse (ltb (earliest_end x.end xs) late.start) 12 _ (uncommon late.child (some (late.start, late.end))) (answered refl)
+      on_refuse (ltb (earliest_end x.end xs) late.start) 12 _ (uncommon late.child (Some (late.start, late.end))) (answered refl)
 
   pub times_fit : (hs : List Hop) → Fits R (answers of_time) (spans hs then meet)
   times_fit hs = on_then meet (spans_only hs) meet_fits

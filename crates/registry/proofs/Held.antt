@@ -2,7 +2,7 @@
 use Prim.Native.Nat.{ℕ, ◌^◌, ◌<◌}
 use mathlib.Core.Path.{◌≡◌, refl, ap, ◌∙◌}
 use mathlib.Core.Bool.{true, ◌&&◌}
-use mathlib.Core.Option.{some}
+use Rattle.std.specs.Prelude.{Some}
 use mathlib.Core.List.{[], ◌∷◌}
 use native.Mathlib.Omega.{arith}
 use lib.Dec.{ltb}
@@ -64,11 +64,11 @@ module _ (s : Store) (ok : SoundStore s) where
   tree_circles = ((sound_is s).0 ok.rules).circles
 
   -- a child has 32 bits
-  pub child_fits : (f : ℕ) (e : Edge) → get (tree_of s) f ≡ some e → f < 2 ^ 32
+  pub child_fits : (f : ℕ) (e : Edge) → get (tree_of s) f ≡ Some e → f < 2 ^ 32
   child_fits f e q = (sound_walkable s ok).frames s.instants s.poses f e q
 
   -- a parent has 32 bits
-  pub parent_fits_lem : (f : ℕ) (e : Edge) → get (tree_of s) f ≡ some e → e.parent < 2 ^ 32
+  pub parent_fits_lem : (f : ℕ) (e : Edge) → get (tree_of s) f ≡ Some e → e.parent < 2 ^ 32
   parent_fits_lem f e q =
       let k = (sound_is s).0 ok.rules in
       ltb-true e.parent (2 ^ 32)

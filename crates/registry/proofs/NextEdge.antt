@@ -2,8 +2,8 @@
 use Prim.Native.Nat.{ℕ, zero, suc, ◌≤◌, ◌<◌}
 use mathlib.Core.Path.{◌≡◌, refl, sym, ap, ◌∙◌}
 use mathlib.Core.Bool.{true}
-use mathlib.Core.Option.{none, some}
-use mathlib.Core.List.{[], ◌∷◌, head?}
+use Rattle.std.specs.Prelude.{None, Some}
+use mathlib.Core.List.{[], ◌∷◌}
 use native.Mathlib.Omega.{arith}
 use lib.ListN.{length, get_or}
 use lib.Dec.{leb}
@@ -18,16 +18,17 @@ use Rattle.registry.specs.layout.Rows.{FirstRow}
 use Rattle.registry.proofs.layout.MapRows.{key}
 use Rattle.registry.proofs.layout.StoreBack.{blank}
 use Rattle.registry.proofs.layout.TreeRows.{length_tree, tree_row, tree_key}
+use Rattle.buffer.specs.Samples.{first?}
 
 -- ---- the law
 
-head_held : (m : Tree) (x : ℕ × Edge) → head? m ≡ some x → get m x.0 ≡ some x.1
+head_held : (m : Tree) (x : ℕ × Edge) → first? m ≡ Some x → get m x.0 ≡ Some x.1
 head_held [] x q = absurd (none_some q)
 head_held (y ∷ m) x q =
     let e : y ≡ x = cc q in
-    get_here y m x.0 (ap (λ (z : ℕ × Edge). z.0) (sym e)) ∙ ap (λ (z : ℕ × Edge). some z.1) e
+    get_here y m x.0 (ap (λ (z : ℕ × Edge). z.0) (sym e)) ∙ ap (λ (z : ℕ × Edge). Some z.1) e
 
-head_first : (m : Tree) (c : ℕ) (e : Edge) → Rising m → get m c ≡ some e → (x : ℕ × Edge) × (head? m ≡ some x) × (x.0 ≤ c)
+head_first : (m : Tree) (c : ℕ) (e : Edge) → Rising m → get m c ≡ Some e → (x : ℕ × Edge) × (first? m ≡ Some x) × (x.0 ≤ c)
 head_first [] c e r q = absurd (none_some q)
 head_first (y ∷ m) c e r q = (y, refl, by (tri c y.0))
   where
@@ -39,16 +40,16 @@ head_first (y ∷ m) c e r q = (y, refl, by (tri c y.0))
 pub reads_through : ReadsThrough
 reads_through = record { held = held; first = first; own = own }
   where
-    held : (t : Tree) (f : ℕ) (x : ℕ × Edge) → edge_from t f ≡ some x → (f ≤ x.0) × (get t x.0 ≡ some x.1)
+    held : (t : Tree) (f : ℕ) (x : ℕ × Edge) → edge_from t f ≡ Some x → (f ≤ x.0) × (get t x.0 ≡ Some x.1)
     held t f x q =
         let g = sym (get_keep (leb f) t x.0) ∙ head_held (keep (leb f) t) x q in
         both (leb f x.0) (λ e. (leb-true f x.0 e, rw e at g)) (λ e. absurd (none_some (rw e at g)))
 
-    first : (t : Tree) (f c : ℕ) (e : Edge) → rising t ≡ true → get t c ≡ some e → f ≤ c → (x : ℕ × Edge) × (edge_from t f ≡ some x) × (x.0 ≤ c)
+    first : (t : Tree) (f c : ℕ) (e : Edge) → rising t ≡ true → get t c ≡ Some e → f ≤ c → (x : ℕ × Edge) × (edge_from t f ≡ Some x) × (x.0 ≤ c)
     first t f c e r q l =
         head_first (keep (leb f) t) c e (rising_keep (leb f) t ((rising_is t).0 r)) (get_keep (leb f) t c ∙ rw (le-leb f c l) q)
 
-    own : (t : Tree) (f : ℕ) (e : Edge) → rising t ≡ true → get t f ≡ some e → edge_from t f ≡ some (f, e)
+    own : (t : Tree) (f : ℕ) (e : Edge) → rising t ≡ true → get t f ≡ Some e → edge_from t f ≡ Some (f, e)
     own t f e r q =
         let z = first t f f e r q (omega arith) in
         let h = held t f z.0 z.1 in
@@ -56,27 +57,27 @@ reads_through = record { held = held; first = first; own = own }
         let m = h.0 in
         let k : z.0.0 ≡ f = omega arith in
         let v : z.0.1 ≡ e = cc (sym h.1 ∙ ap (get t) k ∙ q) in
-        z.1 ∙ (λ i. some (k i, v i))
+        z.1 ∙ (λ i. Some (k i, v i))
 
 -- ---- by rows
 
-from_row : (t : Tree) (f k : ℕ) → k < length t → ((j : ℕ) → j < k → key blank t j < f) → f ≤ key blank t k → edge_from t f ≡ some (get_or t k blank)
+from_row : (t : Tree) (f k : ℕ) → k < length t → ((j : ℕ) → j < k → key blank t j < f) → f ≤ key blank t k → edge_from t f ≡ Some (get_or t k blank)
 from_row [] f k l below from = absurd (omega arith)
 from_row (x ∷ t) f zero l below from = rw (le-leb f x.0 from)
 from_row (x ∷ t) f (suc k) l below from =
     rw (lt-leb f x.0 (below 0 (omega arith))) (from_row t f k (omega arith) (λ j u. below (suc j) (omega arith)) from)
 
-from_none : (t : Tree) (f : ℕ) → ((j : ℕ) → j < length t → key blank t j < f) → edge_from t f ≡ none
+from_none : (t : Tree) (f : ℕ) → ((j : ℕ) → j < length t → key blank t j < f) → edge_from t f ≡ None
 from_none [] f below = refl
 from_none (x ∷ t) f below = rw (lt-leb f x.0 (below 0 (omega arith))) (from_none t f (λ j u. below (suc j) (omega arith)))
 
 module _ (s : Store) (f k : ℕ) (row : FirstRow s.head f k) where
-  pub edge_of_row : k < used_in s → edge_from (tree_of s) f ≡ some (row_at s k)
+  pub edge_of_row : k < used_in s → edge_from (tree_of s) f ≡ Some (row_at s k)
   edge_of_row l =
       from_row (tree_of s) f k (rw (length_tree s) l) (λ j u. rw (tree_key s j (omega arith)) (row.below j u)) (rw (tree_key s k l) (row.from l))
-      ∙ ap some (tree_row s k l)
+      ∙ ap Some (tree_row s k l)
 
-  pub edge_of_none : k ≡ used_in s → edge_from (tree_of s) f ≡ none
+  pub edge_of_none : k ≡ used_in s → edge_from (tree_of s) f ≡ None
   edge_of_none e =
       from_none (tree_of s) f (λ j u.
       let w : j < used_in s = rw (length_tree s) at u in

@@ -1,7 +1,7 @@
 -- The readings marked P, each computed.
 use Prim.Native.Nat.{ℕ}
 use mathlib.Core.Path.{◌≡◌, refl, ap, ◌∙◌}
-use mathlib.Core.Option.{none, some}
+use Rattle.std.specs.Prelude.{None, Some}
 use mathlib.Core.List.{[], ◌∷◌}
 use lib.Ieee.{nan, round, add, sub, mul, div, neg, lt, le, of_bits, of_int, to_bits}
 use Rattle.time.specs.Timestamp.{as_secs_f64, share}
@@ -60,9 +60,9 @@ still i j = two i identity j identity
 
 -- child 2 under 1 at instant 10 in rows of age 5
 aged : Store
-aged = stored (limits (some 5)) ((2, edge 1 ((10, identity) ∷ [])) ∷ [])
+aged = stored (limits (Some 5)) ((2, edge 1 ((10, identity) ∷ [])) ∷ [])
 
-aged_is : after (some 5) (row2 10 ∷ []) ≡ aged
+aged_is : after (Some 5) (row2 10 ∷ []) ≡ aged
 unfolding readings sqrt_at round add sub mul div neg lt le of_bits of_int to_bits as_secs_f64 share normalize rotate_vector blend arc between slerp acos sin isometry.finite isometry.product isometry.inverse isometry.inverse_with_rotation isometry.between isometry.interpolated validate served row_sound tree.add stored encode limits_of tree_of sized no_circle sound side connected ask lookup common_time open_of on_tree add_of lookup_of common_time_of aged edge
 aged_is = refl
 
@@ -83,7 +83,7 @@ unfolding readings
 reading_6 = ap (λ (s : Store). instants (row_instants (add_of s (row2 4)).store 0)) aged_is ∙ ap instants dropped
 
 driven : Store
-driven = stored (limits none) ((2, edge 1 (two 0 (moved zero64) 4000000000 (moved (whole 4)))) ∷ [])
+driven = stored (limits None) ((2, edge 1 (two 0 (moved zero64) 4000000000 (moved (whole 4)))) ∷ [])
 
 drive_is : drive ≡ driven
 unfolding readings sqrt_at round add sub mul div neg lt le of_bits of_int to_bits as_secs_f64 share normalize rotate_vector blend arc between slerp acos sin isometry.finite isometry.product isometry.inverse isometry.inverse_with_rotation isometry.between isometry.interpolated validate served row_sound tree.add stored encode limits_of tree_of sized no_circle sound side connected ask lookup common_time open_of on_tree add_of lookup_of common_time_of driven edge two
@@ -93,7 +93,7 @@ quarter : lookup_of driven 1 2 1000000000 ≡ answer (pose (moved one64))
 unfolding readings sqrt_at round add sub mul div neg lt le of_bits of_int to_bits as_secs_f64 share normalize rotate_vector blend arc between slerp acos sin isometry.finite isometry.product isometry.inverse isometry.inverse_with_rotation isometry.between isometry.interpolated validate served row_sound tree.add stored encode limits_of tree_of sized no_circle sound side connected ask lookup common_time open_of on_tree add_of lookup_of common_time_of driven edge two
 quarter = refl
 
-late : lookup_of driven 1 2 4000000001 ≡ refusal 11 (hop 2 (some (0, 4000000000)))
+late : lookup_of driven 1 2 4000000001 ≡ refusal 11 (hop 2 (Some (0, 4000000000)))
 unfolding readings sqrt_at round add sub mul div neg lt le of_bits of_int to_bits as_secs_f64 share normalize rotate_vector blend arc between slerp acos sin isometry.finite isometry.product isometry.inverse isometry.inverse_with_rotation isometry.between isometry.interpolated validate served row_sound tree.add stored encode limits_of tree_of sized no_circle sound side connected ask lookup common_time open_of on_tree add_of lookup_of common_time_of driven edge two
 late = refl
 
@@ -107,19 +107,19 @@ reading_8 = ap (λ (s : Store). reply (lookup_of s 1 2 4000000001)) drive_is ∙
 
 -- child 2 under 1 from a to b, then 3 under 2 at c, then also at d
 half : ℕ → ℕ → Store
-half a b = stored (limits none) ((2, edge 1 (still a b)) ∷ [])
+half a b = stored (limits None) ((2, edge 1 (still a b)) ∷ [])
 
 most : ℕ → ℕ → ℕ → Store
-most a b c = stored (limits none) ((2, edge 1 (still a b)) ∷ (3, edge 2 ((c, identity) ∷ [])) ∷ [])
+most a b c = stored (limits None) ((2, edge 1 (still a b)) ∷ (3, edge 2 ((c, identity) ∷ [])) ∷ [])
 
 full : ℕ → ℕ → ℕ → ℕ → Store
-full a b c d = stored (limits none) ((2, edge 1 (still a b)) ∷ (3, edge 2 (still c d)) ∷ [])
+full a b c d = stored (limits None) ((2, edge 1 (still a b)) ∷ (3, edge 2 (still c d)) ∷ [])
 
 abbrev third : ℕ → Addition
 third i = addition 3 2 (At i) identity
 
 abbrev Step1 : ℕ → ℕ → Type 0
-Step1 a b = after none (row2 a ∷ row2 b ∷ []) ≡ half a b
+Step1 a b = after None (row2 a ∷ row2 b ∷ []) ≡ half a b
 
 abbrev Step2 : ℕ → ℕ → ℕ → Type 0
 Step2 a b c = (add_of (half a b) (third c)).store ≡ most a b c
@@ -163,7 +163,7 @@ missing_3 : Step3 20 30 10 19
 unfolding readings sqrt_at round add sub mul div neg lt le of_bits of_int to_bits as_secs_f64 share normalize rotate_vector blend arc between slerp acos sin isometry.finite isometry.product isometry.inverse isometry.inverse_with_rotation isometry.between isometry.interpolated validate served row_sound tree.add stored encode limits_of tree_of sized no_circle sound side connected ask lookup common_time open_of on_tree add_of lookup_of common_time_of most full edge two still
 missing_3 = refl
 
-missing : common_time_of (full 20 30 10 19) 3 1 ≡ refusal 12 (hop 2 (some (20, 30)))
+missing : common_time_of (full 20 30 10 19) 3 1 ≡ refusal 12 (hop 2 (Some (20, 30)))
 unfolding readings sqrt_at round add sub mul div neg lt le of_bits of_int to_bits as_secs_f64 share normalize rotate_vector blend arc between slerp acos sin isometry.finite isometry.product isometry.inverse isometry.inverse_with_rotation isometry.between isometry.interpolated validate served row_sound tree.add stored encode limits_of tree_of sized no_circle sound side connected ask lookup common_time open_of on_tree add_of lookup_of common_time_of full edge two still
 missing = refl
 
@@ -173,9 +173,9 @@ reading_10 = ap (λ (s : Store). reply (common_time_of s 3 1)) (ranges_is 20 30 
 
 -- child 2 under 1, static
 fixed : Store
-fixed = stored (limits none) ((2, record { parent = 1; kind = kind.Static; samples = (0, identity) ∷ [] }) ∷ [])
+fixed = stored (limits None) ((2, record { parent = 1; kind = kind.Static; samples = (0, identity) ∷ [] }) ∷ [])
 
-fixed_is : after none (addition 2 1 Static identity ∷ []) ≡ fixed
+fixed_is : after None (addition 2 1 Static identity ∷ []) ≡ fixed
 unfolding readings sqrt_at round add sub mul div neg lt le of_bits of_int to_bits as_secs_f64 share normalize rotate_vector blend arc between slerp acos sin isometry.finite isometry.product isometry.inverse isometry.inverse_with_rotation isometry.between isometry.interpolated validate served row_sound tree.add stored encode limits_of tree_of sized no_circle sound side connected ask lookup common_time open_of on_tree add_of lookup_of common_time_of fixed
 fixed_is = refl
 

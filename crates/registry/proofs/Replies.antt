@@ -2,8 +2,8 @@
 use Prim.Native.Nat.{ℕ}
 use mathlib.Core.Path.{◌≡◌, refl}
 use mathlib.Core.Bool.{Bool, true, not, ◌&&◌}
-use mathlib.Core.Option.{Option, none, some}
-use mathlib.Core.List.{List, ◌++◌, head?}
+use Rattle.std.specs.Prelude.{Option, None, Some}
+use mathlib.Core.List.{List, ◌++◌}
 use lib.Dec.{eqb, ltb, leb}
 use lib.ListN.{length}
 use lib.Ieee.{lt}
@@ -18,7 +18,7 @@ use Rattle.geometry.specs.Transform.{tolerance, validate}
 use Rattle.buffer.specs.declared.kind.Kind.{Kind}
 use Rattle.buffer.specs.declared.kind.Kind.TheVariants.{Static, Dynamic}
 use Rattle.buffer.specs.Map.{get, keep}
-use Rattle.buffer.specs.Samples.{Samples, range, last?, between_samples, served_at, single, served}
+use Rattle.buffer.specs.Samples.{Samples, range, last?, between_samples, served_at, single, served, first?}
 use Rattle.registry.specs.Tree.{Edge, Tree, Limits, Addition, is_absent, ancestors, member, other_parent, current_parent, other_kind, kind_of, updated_edge, add, wiped, wipe}
 use Rattle.registry.specs.Store.{Store, limits_of, tree_of, sizes_fit, sized}
 use Rattle.registry.specs.Sound.{sound}
@@ -82,21 +82,21 @@ module _ (child : ℕ) (m : Samples) (t : ℕ) where
   unserved = refusal 11 (hop child (range m))
 
   single_listed : (x : Option (ℕ × Isometry)) → Listed (single unserved x)
-  single_listed none = refused refl
-  single_listed (some x) = answered refl
+  single_listed None = refused refl
+  single_listed (Some x) = answered refl
 
   between_samples_listed : (x y : Option (ℕ × Isometry)) → Listed (between_samples unserved x y t)
-  between_samples_listed (some x) (some y) = interpolated_listed x.1 y.1 x.0 y.0 t
-  between_samples_listed (some x) none = refused refl
-  between_samples_listed none y = refused refl
+  between_samples_listed (Some x) (Some y) = interpolated_listed x.1 y.1 x.0 y.0 t
+  between_samples_listed (Some x) None = refused refl
+  between_samples_listed None y = refused refl
 
   at_listed : (x : Option Isometry) → Listed (served_at unserved x m t)
-  at_listed (some p) = answered refl
-  at_listed none = between_samples_listed (last? (keep (λ i. ltb i t) m)) (head? (keep (ltb t) m))
+  at_listed (Some p) = answered refl
+  at_listed None = between_samples_listed (last? (keep (λ i. ltb i t) m)) (first? (keep (ltb t) m))
 
   served_listed : (k : Kind) → Listed (served child k m t)
   unfolding served
-  served_listed Static = single_listed (head? m)
+  served_listed Static = single_listed (first? m)
   served_listed Dynamic = at_listed (get m t)
 
 hops_listed : (i : ℕ) (hs : List Hop) → Every (Serves carries i) hs
@@ -118,8 +118,8 @@ common_time_formed t f g =
 
 -- 6 carries that parent
 parent_listed : (held : Option Edge) (p : ℕ) {next : Reply Tree} → Listed next → Listed (refuse (other_parent held p) 6 (current_parent held) next)
-parent_listed none p n = n
-parent_listed (some e) p n = on_refuse (not (eqb e.parent p)) 6 (frame e.parent) refl n
+parent_listed None p n = n
+parent_listed (Some e) p n = on_refuse (not (eqb e.parent p)) 6 (frame e.parent) refl n
 
 add_listed : (L : Limits) (t : Tree) (a : Addition) → Listed (add L t a)
 unfolding add
@@ -135,8 +135,8 @@ add_listed L t a =
     (answered refl)))))))
 
 wiped_listed : (f i : ℕ) (t : Tree) (held : Option Edge) → Listed (wiped f i t held)
-wiped_listed f i t none = refused refl
-wiped_listed f i t (some e) = answered refl
+wiped_listed f i t None = refused refl
+wiped_listed f i t (Some e) = answered refl
 
 wipe_listed : (t : Tree) (f i : ℕ) → Listed (wipe t f i)
 unfolding wipe

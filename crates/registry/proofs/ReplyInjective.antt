@@ -4,7 +4,7 @@ use mathlib.Core.Path.{◌≡◌, refl, sym, ap, ◌∙◌}
 use mathlib.Core.Bool.{Bool, true, ◌&&◌}
 use mathlib.Core.List.{List, [], ◌∷◌}
 use mathlib.Core.Logic.{inl, inr}
-use mathlib.Core.Option.{Option, none, some}
+use Rattle.std.specs.Prelude.{Option, None, Some}
 use native.Mathlib.Omega.{arith}
 use lib.Dec.{ltb}
 use lib.Ieee.{Float}
@@ -62,8 +62,8 @@ pose_in (refusal k c) = identity
 
 -- the code's enum of a range
 covered_of : Option (ℕ × ℕ) → Covered
-covered_of none = Nothing
-covered_of (some r) = Range r.0 r.1
+covered_of None = Nothing
+covered_of (Some r) = Range r.0 r.1
 
 covered_back : (c : Covered) → covered_of (range_of c) ≡ c
 unfolding covered_of

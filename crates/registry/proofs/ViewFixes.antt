@@ -2,7 +2,7 @@
 use Prim.Native.Nat.{ℕ}
 use mathlib.Core.Path.{◌≡◌, refl, sym, ap}
 use mathlib.Core.Bool.{true, ◌&&◌}
-use mathlib.Core.Option.{Option, none, some, map}
+use Rattle.std.specs.Prelude.{Option, None, Some, option_map}
 use mathlib.Core.List.{[], ◌∷◌}
 use native.Mathlib.Omega.{arith}
 use lib.Dec.{eqb, leb}
@@ -44,20 +44,20 @@ sound_rises L t s = record {
 -- ---- one tree for a map
 
 module _ (t u : Tree) (rt : Rises t) (ru : Rises u) (m : SameMap (view_of t) (view_of u)) where
-  row_of : (v : Tree) → Rises v → (f : ℕ) (e : Edge) → get v f ≡ some e → Rising e.samples
+  row_of : (v : Tree) → Rises v → (f : ℕ) (e : Edge) → get v f ≡ Some e → Rising e.samples
   row_of v r f e q = (rising_is e.samples).0 ((all_get (λ x. rising x.1.samples) v ((rising_is v).0 r.children)).0 r.instants f e q)
 
   same_edge : (f : ℕ) (o p : Option Edge) → get t f ≡ o → get u f ≡ p
-      → map (λ e. e.parent) o ≡ map (λ e. e.parent) p → map (λ e. e.kind) o ≡ map (λ e. e.kind) p
+      → option_map (λ e. e.parent) o ≡ option_map (λ e. e.parent) p → option_map (λ e. e.kind) o ≡ option_map (λ e. e.kind) p
       → ((i : ℕ) → pose_at i o ≡ pose_at i p) → o ≡ p
-  same_edge f none none q s parents kinds poses = refl
-  same_edge f none (some d) q s parents kinds poses = absurd (none_some parents)
-  same_edge f (some e) none q s parents kinds poses = absurd (none_some (sym parents))
-  same_edge f (some e) (some d) q s parents kinds poses =
+  same_edge f None None q s parents kinds poses = refl
+  same_edge f None (Some d) q s parents kinds poses = absurd (none_some parents)
+  same_edge f (Some e) None q s parents kinds poses = absurd (none_some (sym parents))
+  same_edge f (Some e) (Some d) q s parents kinds poses =
       let parent : e.parent ≡ d.parent = cc parents in
       let kind : e.kind ≡ d.kind = cc kinds in
       let samples = ext e.samples d.samples (row_of t rt f e q) (row_of u ru f d s) poses in
-      λ i. some (record { parent = parent i; kind = kind i; samples = samples i })
+      λ i. Some (record { parent = parent i; kind = kind i; samples = samples i })
 
   same_tree : t ≡ u
   unfolding view_of

@@ -1,6 +1,6 @@
 -- Document 01's number and values for each case of the answer, what each number carries, and the reply that the code's enum stands for.
 use Rattle.std.specs.Prelude.{ℕ, Bool, List, [], ◌∷◌}
-use Rattle.std.proofs.Math.Option.{Option, none, some}
+use Rattle.std.specs.Prelude.{Option, None, Some}
 use Rattle.time.specs.Reply.{Reply, Carried, answer, refusal, nothing, norm, frame, hop}
 use Rattle.geometry.specs.declared.isometry.Isometry.{Isometry}
 use Rattle.registry.specs.declared.answer.Covered.{Covered}
@@ -22,8 +22,8 @@ pub data Value : Type 0 where
 
 -- a hop's range, if it holds any sample
 abbrev pub range_of : Covered → Option (ℕ × ℕ)
-range_of (covered.Range start end) = some (start, end)
-range_of covered.Nothing = none
+range_of (covered.Range start end) = Some (start, end)
+range_of covered.Nothing = None
 
 -- what a call replies with this answer
 abbrev pub reply_of : Answer → Reply Value

@@ -1,6 +1,6 @@
 -- "Every call answers as a map from frames to timed poses would, with E and S as its bounds". Proved in proofs/ under the same names.
 use Rattle.std.specs.Prelude.{ℕ, ◌+◌, ◌≤◌, ◌≡◌, ◌↔◌, Bool, true, false, cond, ◌&&◌, eqb, ltb}
-use Rattle.std.proofs.Math.Option.{Option, none, some, map}
+use Rattle.std.specs.Prelude.{Option, None, Some, option_map}
 use Rattle.time.specs.Reply.{Carried, frame, answer, refusal}
 use Rattle.geometry.specs.declared.isometry.Isometry.{Isometry}
 use Rattle.buffer.specs.declared.kind.Kind.{Kind}
@@ -23,14 +23,14 @@ pub record SameMap (m n : FrameMap) : Type 0 where
   pub poses : (f i : ℕ) → m.pose f i ≡ n.pose f i
 
 abbrev pub pose_at : ℕ → Option Edge → Option Isometry
-pose_at i none = none
-pose_at i (some e) = get e.samples i
+pose_at i None = None
+pose_at i (Some e) = get e.samples i
 
 -- the map that a tree is
 unfoldable pub view_of : Tree → FrameMap
 view_of t = record {
-  parent = λ f. map (λ e. e.parent) (get t f);
-  kind = λ f. map (λ e. e.kind) (get t f);
+  parent = λ f. option_map (λ e. e.parent) (get t f);
+  kind = λ f. option_map (λ e. e.kind) (get t f);
   pose = λ f i. pose_at i (get t f);
 }
 
@@ -39,33 +39,33 @@ view_of t = record {
 -- "An addition puts one in"
 unfoldable pub put_in : Addition → FrameMap → FrameMap
 put_in a m = record {
-  parent = λ f. cond (eqb f a.child) (some a.parent) (m.parent f);
-  kind = λ f. cond (eqb f a.child) (some (kind_of a.stamp)) (m.kind f);
-  pose = λ f i. cond (eqb f a.child && eqb i (instant_of a.stamp)) (some a.pose) (m.pose f i);
+  parent = λ f. cond (eqb f a.child) (Some a.parent) (m.parent f);
+  kind = λ f. cond (eqb f a.child) (Some (kind_of a.stamp)) (m.kind f);
+  pose = λ f i. cond (eqb f a.child && eqb i (instant_of a.stamp)) (Some a.pose) (m.pose f i);
 }
 
 abbrev pub moving : Option Kind → Bool
-moving none = false
-moving (some Static) = false
-moving (some Dynamic) = true
+moving None = false
+moving (Some Static) = false
+moving (Some Dynamic) = true
 
 -- a moving child's poses at these instants dropped
 unfoldable pub remove_poses : ℕ → (ℕ → Bool) → FrameMap → FrameMap
 remove_poses child these m = record {
   parent = m.parent;
   kind = m.kind;
-  pose = λ f i. cond (eqb f child && moving (m.kind f) && these i) none (m.pose f i);
+  pose = λ f i. cond (eqb f child && moving (m.kind f) && these i) None (m.pose f i);
 }
 
 -- n is the newest instant of the frame f
 pub record Newest (m : FrameMap) (f n : ℕ) : Type 0 where
-  pub held : (p : Isometry) × (m.pose f n ≡ some p)
-  pub top : (i : ℕ) (p : Isometry) → m.pose f i ≡ some p → i ≤ n
+  pub held : (p : Isometry) × (m.pose f n ≡ Some p)
+  pub top : (i : ℕ) (p : Isometry) → m.pose f i ≡ Some p → i ≤ n
 
 -- "where there is an age", "older than its newest less the age"
 abbrev pub older : Option ℕ → ℕ → ℕ → Bool
-older none newest i = false
-older (some age) newest i = ltb (i + age) newest
+older None newest i = false
+older (Some age) newest i = ltb (i + age) newest
 
 -- ---- the laws
 
@@ -81,7 +81,7 @@ WipeAsMap = (t u : Tree) (f i : ℕ) → wipe t f i ≡ answer u → SameMap (vi
 -- "wipe: not a child": 9 with the frame, exactly for a frame without a parent
 abbrev pub WipeRefused : Type 0
 WipeRefused = (t : Tree) (f i k : ℕ) (c : Carried)
-    → (wipe t f i ≡ refusal k c) ↔ ((k ≡ 9) × (c ≡ frame f) × ((view_of t).parent f ≡ none))
+    → (wipe t f i ≡ refusal k c) ↔ ((k ≡ 9) × (c ≡ frame f) × ((view_of t).parent f ≡ None))
 
 -- a sound tree and its rows rise
 abbrev pub SoundRises : Type 0

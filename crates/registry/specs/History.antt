@@ -1,8 +1,7 @@
 -- What a list of additions says of each frame, told from the accepted ones alone, in the words of demand 3.
 use Rattle.std.specs.Prelude.{ℕ, max, ◌-◌, ◌≡◌, Bool, true, false, cond, ◌||◌, eqb, ltb, leb}
-use Rattle.std.proofs.Math.Option
-use Rattle.std.proofs.Math.Option.{Option, none, some}
-use mathlib.Core.List.{List, [], ◌∷◌, head?, map}
+use Rattle.std.specs.Prelude.{Option, None, Some}
+use mathlib.Core.List.{List, [], ◌∷◌, map}
 use Rattle.std.specs.Float.{binary64}
 use Rattle.std.specs.Float.Ieee.{to_bits}
 use Rattle.time.specs.Reply.{Reply, answer, refusal}
@@ -10,7 +9,7 @@ use Rattle.geometry.specs.declared.isometry.Isometry.{Isometry}
 use Rattle.buffer.specs.declared.kind.Kind.{Kind}
 use Rattle.buffer.specs.declared.kind.Kind.TheVariants.{Static, Dynamic}
 use Rattle.buffer.specs.Row.{floats}
-use Rattle.buffer.specs.Samples.{last?}
+use Rattle.buffer.specs.Samples.{last?, first?}
 use Rattle.registry.specs.Tree.{Addition, kind_of, instant_of}
 use Rattle.registry.specs.Store.{Store}
 use Rattle.registry.specs.Answers.{Value}
@@ -51,14 +50,14 @@ own f xs = select (λ a. eqb a.child f) xs
 
 -- "A frame's parent and kind are those of the first accepted addition with it as child"
 unfoldable pub parent_of : ℕ → List Addition → Option ℕ
-parent_of f xs = Option.map (λ a. a.parent) (head? (own f xs))
+parent_of f xs = option_map (λ a. a.parent) (first? (own f xs))
 
 unfoldable pub frame_kind : ℕ → List Addition → Option Kind
-frame_kind f xs = Option.map (λ a. kind_of a.stamp) (head? (own f xs))
+frame_kind f xs = option_map (λ a. kind_of a.stamp) (first? (own f xs))
 
 -- the pose of the last; "last means last in the list"
 abbrev pub last_pose : List Addition → Option Isometry
-last_pose xs = Option.map (λ a. a.pose) (last? xs)
+last_pose xs = option_map (λ a. a.pose) (last? xs)
 
 -- those at the instant i
 abbrev pub at_instant : ℕ → List Addition → List Addition
@@ -70,15 +69,15 @@ newest_instant xs = greatest (map (λ a. instant_of a.stamp) xs)
 
 -- the instant i is not older than the newest less the age; without an age, or with one above the newest, every instant counts
 abbrev pub recent : Option ℕ → ℕ → ℕ → Bool
-recent none newest i = true
-recent (some age) newest i = ltb newest age || leb (newest - age) i
+recent None newest i = true
+recent (Some age) newest i = ltb newest age || leb (newest - age) i
 
 -- The survivor at the instant i of a frame of this kind with these accepted additions. A static frame's only one is the pose of its last, and
 -- stands at instant 0. A moving frame's at i is the last pose accepted there, where i is not too old.
 abbrev pub survivor_in : Option ℕ → Option Kind → List Addition → ℕ → Option Isometry
-survivor_in age none xs i = none
-survivor_in age (some Static) xs i = cond (eqb i 0) (last_pose xs) none
-survivor_in age (some Dynamic) xs i = cond (recent age (newest_instant xs) i) (last_pose (at_instant i xs)) none
+survivor_in age None xs i = None
+survivor_in age (Some Static) xs i = cond (eqb i 0) (last_pose xs) None
+survivor_in age (Some Dynamic) xs i = cond (recent age (newest_instant xs) i) (last_pose (at_instant i xs)) None
 
 unfoldable pub survivor : Option ℕ → ℕ → List Addition → ℕ → Option Isometry
 survivor age f xs i = survivor_in age (frame_kind f xs) (own f xs) i
@@ -91,4 +90,4 @@ pose_bits p = map (to_bits binary64) (floats p)
 pub record SameFrame (age : Option ℕ) (f : ℕ) (xs ys : List Addition) : Type 0 where
   pub parents : parent_of f xs ≡ parent_of f ys
   pub kinds : frame_kind f xs ≡ frame_kind f ys
-  pub survivors : (i : ℕ) → Option.map pose_bits (survivor age f xs i) ≡ Option.map pose_bits (survivor age f ys i)
+  pub survivors : (i : ℕ) → option_map pose_bits (survivor age f xs i) ≡ option_map pose_bits (survivor age f ys i)

@@ -1,7 +1,8 @@
 -- The order of each call's refusals as data, as document 01 prints it, beside what makes each number due, whatever the order is. The laws: a reply
 -- is the refusal of the first number that is due, with what it carries, and an answer where none is. Proved in proofs/orders.
 use Rattle.std.specs.Prelude.{ℕ, ◌≡◌, Bool, true, false, cond, not, ◌&&◌, List, [], ◌∷◌, eqb, leb, ltb, length}
-use Rattle.std.proofs.Math.Option.{Option, none, some, or_else}
+use Rattle.std.specs.Prelude.{Option, None, Some}
+use Rattle.std.specs.Option.{option_or}
 use Rattle.time.specs.Reply.{Carried, Reply, answer, refusal, nothing, frame, hop, ◌then◌}
 use Rattle.time.specs.Order.{Dues, when, due_at, first_due, refused}
 use Rattle.geometry.specs.declared.isometry.Isometry.{Isometry}
@@ -60,7 +61,7 @@ AddFirstDue = (s : Store) (a : Addition)
 
 -- 9: "neither child nor parent; the frame", "target first"
 abbrev pub unknown_due : Tree → ℕ → ℕ → Option Carried
-unknown_due t target source = cond (known t target) (when (not (known t source)) (frame source)) (some (frame target))
+unknown_due t target source = cond (known t target) (when (not (known t source)) (frame source)) (Some (frame target))
 
 -- 10: "both known, no path"
 abbrev pub apart_due : Tree → ℕ → ℕ → Option Carried
@@ -79,8 +80,8 @@ covers Empty i = false
 
 -- of the first hop that is at fault: "its child and range, if any"
 abbrev pub first_hop : (Coverage → Bool) → List Hop → Option Carried
-first_hop fault [] = none
-first_hop fault (h ∷ hs) = cond (fault (cover h)) (some (hop h.0 (range h.1.samples))) (first_hop fault hs)
+first_hop fault [] = None
+first_hop fault (h ∷ hs) = cond (fault (cover h)) (Some (hop h.0 (range h.1.samples))) (first_hop fault hs)
 
 -- 11: "first failing hop"
 abbrev pub not_served_due : List Hop → ℕ → Option Carried
@@ -88,16 +89,16 @@ not_served_due hs i = first_hop (λ c. not (covers c i)) hs
 
 -- 13, 14 and 3 of the inverse of the target side, where it has a pose
 abbrev pub inverse_of : Reply (Option Isometry) → Dues
-inverse_of (answer none) = []
-inverse_of (answer (some a)) = inverse_due a
+inverse_of (answer None) = []
+inverse_of (answer (Some a)) = inverse_due a
 inverse_of (refusal k c) = []
 
 -- 3: that of the inverse, or "3 on the pose that comes out" (M-103)
 unfoldable pub lookup_due : Tree → ℕ → ℕ → ℕ → Dues
 lookup_due t target source i =
-    let a = fold none (hops t (side t target source)) i in
-    let b = fold none (hops t (side t source target)) i in
-    (3, or_else (due_at (inverse_of a) 3) (overflow_due (a then λ x. b then λ y. joined x y)))
+    let a = fold None (hops t (side t target source)) i in
+    let b = fold None (hops t (side t source target)) i in
+    (3, option_or (due_at (inverse_of a) 3) (overflow_due (a then λ x. b then λ y. joined x y)))
     ∷ (9, unknown_due t target source)
     ∷ (10, apart_due t target source)
     ∷ (11, not_served_due (asked t target source) i)
@@ -134,7 +135,7 @@ too_late hs Empty = false
 
 -- 12: "first empty hop, else first hop with the latest start"
 abbrev pub no_common_due : List Hop → Option Carried
-no_common_due hs = or_else (first_hop is_empty hs) (first_hop (too_late hs) hs)
+no_common_due hs = option_or (first_hop is_empty hs) (first_hop (too_late hs) hs)
 
 unfoldable pub common_time_due : Tree → ℕ → ℕ → Dues
 common_time_due t target source =

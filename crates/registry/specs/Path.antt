@@ -1,6 +1,6 @@
 -- The path of two frames, and the questions that are asked along it: lookup and latest common time.
 use Rattle.std.specs.Prelude.{ℕ, min, Bool, false, cond, not, ◌||◌, List, [], ◌∷◌, ◌++◌, eqb, ltb}
-use Rattle.std.proofs.Math.Option.{Option, none, some}
+use Rattle.std.specs.Prelude.{Option, None, Some}
 use Rattle.time.specs.Reply.{nothing, frame, hop, Reply, answer, refusal, refuse, ◌then◌}
 use Rattle.geometry.specs.declared.isometry.Isometry.{Isometry}
 use Rattle.geometry.specs.Isometry.{identity, finite, product, inverse}
@@ -47,8 +47,8 @@ abbrev pub Hop : Type 0
 Hop = ℕ × Edge
 
 abbrev pub hop_then : ℕ → Option Edge → List Hop → List Hop
-hop_then x none rest = rest
-hop_then x (some e) rest = (x, e) ∷ rest
+hop_then x None rest = rest
+hop_then x (Some e) rest = (x, e) ∷ rest
 
 -- the hops of the children among these frames
 abbrev pub hops : Tree → List ℕ → List Hop
@@ -80,20 +80,20 @@ ask t target source same along apart =
 
 -- with the parent's pose on the left
 abbrev pub onto : Isometry → Option Isometry → Isometry
-onto p none = p
-onto p (some below) = product p below
+onto p None = p
+onto p (Some below) = product p below
 
 -- the product of a side's poses at the instant, none for an empty side; 11 for the first hop that is not served
 abbrev pub fold : Option Isometry → List Hop → ℕ → Reply (Option Isometry)
 fold below [] i = answer below
-fold below (h ∷ hs) i = served h.0 h.1.kind h.1.samples i then λ p. fold (some (onto p below)) hs i
+fold below (h ∷ hs) i = served h.0 h.1.kind h.1.samples i then λ p. fold (Some (onto p below)) hs i
 
 -- inverse(target side) times source side; an empty side is left out
 abbrev pub joined : Option Isometry → Option Isometry → Reply Isometry
-joined none none = answer identity
-joined none (some source) = answer source
-joined (some target) none = inverse target
-joined (some target) (some source) = inverse target then λ back. answer (product back source)
+joined None None = answer identity
+joined None (Some source) = answer source
+joined (Some target) None = inverse target
+joined (Some target) (Some source) = inverse target then λ back. answer (product back source)
 
 -- "reckoned through as in document 01", with 13, 14 and 3 of the inverse, then "3 on the pose that comes out" (M-103)
 abbrev pub combined : Option Isometry → Option Isometry → Reply Value
@@ -102,15 +102,15 @@ combined target source = joined target source then λ out. finite out then λ p.
 -- 11 in path order, then what the two sides come to
 abbrev pub lookup_along : ℕ → List Hop → List Hop → Reply Value
 lookup_along i target source =
-    fold none target i then λ a.
-    fold none source i then λ b.
+    fold None target i then λ a.
+    fold None source i then λ b.
     combined a b
 
 -- without a path: 11 on the climb from the target to its root, then from the source to its, else 10
 abbrev pub lookup_apart : ℕ → List Hop → List Hop → Reply Value
 lookup_apart i target source =
-    fold none target i then λ a.
-    fold none source i then λ b.
+    fold None target i then λ a.
+    fold None source i then λ b.
     refusal 10 nothing
 
 -- the source's pose seen from the target
@@ -128,7 +128,7 @@ pub record Span : Type 0 where
 abbrev pub span_then : ℕ → Coverage → Reply (List Span) → Reply (List Span)
 span_then child AllTime rest = rest
 span_then child (Range start end) rest = rest then λ spans. answer (record { child = child; start = start; end = end } ∷ spans)
-span_then child Empty rest = refusal 12 (hop child none)
+span_then child Empty rest = refusal 12 (hop child None)
 
 -- the ranges of the moving hops; 12 for the first empty hop
 abbrev pub spans : List Hop → Reply (List Span)
@@ -150,7 +150,7 @@ meet [] = answer static
 meet (x ∷ xs) =
     let end = earliest_end x.end xs in
     let late = latest_start x xs in
-    refuse (ltb end late.start) 12 (hop late.child (some (late.start, late.end))) (answer (at end))
+    refuse (ltb end late.start) 12 (hop late.child (Some (late.start, late.end))) (answer (at end))
 
 -- the latest instant that every hop serves
 unfoldable pub common_time : Tree → ℕ → ℕ → Reply Value

@@ -1,7 +1,7 @@
 -- The readings of document 01 that are marked P: what the definitions give, beside what is expected, as rows of one table.
 -- Proved in proofs/Readings.antt, where each row is computed.
 use Rattle.std.specs.Prelude.{ℕ, ◌+◌, ◌^◌, ◌≡◌, false, List, [], ◌∷◌, negsuc, replicate, get_or, Float}
-use Rattle.std.proofs.Math.Option.{Option, none, some}
+use Rattle.std.specs.Prelude.{Option, None, Some}
 use Rattle.std.specs.Float.{nan, fin, binary64}
 use Rattle.std.specs.Float.Ieee.{round}
 use Rattle.time.specs.declared.stamp.Stamp.TheVariants.{Static, At}
@@ -46,7 +46,7 @@ after age xs = run add_of (opened age) xs
 
 -- what the next addition replies
 abbrev pub next : List Addition → Addition → Seen
-next xs a = reply (add_of (after none xs) a).reply
+next xs a = reply (add_of (after None xs) a).reply
 
 -- child 2 under 1, moving, at these instants
 abbrev pub row2 : ℕ → Addition
@@ -54,11 +54,11 @@ row2 i = addition 2 1 (At i) identity
 
 -- child 2 under 1 from a to b, and 3 under 2 from c to d
 abbrev pub ranges : ℕ → ℕ → ℕ → ℕ → Store
-ranges a b c d = after none (row2 a ∷ row2 b ∷ addition 3 2 (At c) identity ∷ addition 3 2 (At d) identity ∷ [])
+ranges a b c d = after None (row2 a ∷ row2 b ∷ addition 3 2 (At c) identity ∷ addition 3 2 (At d) identity ∷ [])
 
 -- x 0 at instant 0 and 4 at 4000000000
 abbrev pub drive : Store
-drive = after none (addition 2 1 (At 0) (moved zero64) ∷ addition 2 1 (At 4000000000) (moved (whole 4)) ∷ [])
+drive = after None (addition 2 1 (At 0) (moved zero64) ∷ addition 2 1 (At 4000000000) (moved (whole 4)) ∷ [])
 
 pub record Row : Type 0 where
   pub given : Seen
@@ -78,12 +78,12 @@ readings =
     ∷ row (float (sqrt (fin false 1 (negsuc 1073)))) (float (fin false 1 (negsuc 536)))
     ∷ row (next [] (addition 2 1 Static (turned (above 4503599627)))) (reply (answer done))
     ∷ row (next [] (addition 2 1 Static (turned (above 4503599628)))) (reply (refusal 4 (norm (above 4503599628))))
-    ∷ row (instants (row_instants (after (some 5) (row2 10 ∷ row2 5 ∷ [])) 0)) (instants (5 ∷ 10 ∷ []))
-    ∷ row (instants (row_instants (after (some 5) (row2 10 ∷ row2 4 ∷ [])) 0)) (instants (10 ∷ 0 ∷ []))
+    ∷ row (instants (row_instants (after (Some 5) (row2 10 ∷ row2 5 ∷ [])) 0)) (instants (5 ∷ 10 ∷ []))
+    ∷ row (instants (row_instants (after (Some 5) (row2 10 ∷ row2 4 ∷ [])) 0)) (instants (10 ∷ 0 ∷ []))
     ∷ row (reply (lookup_of drive 1 2 1000000000)) (reply (answer (pose (moved one64))))
-    ∷ row (reply (lookup_of drive 1 2 4000000001)) (reply (refusal 11 (hop 2 (some (0, 4000000000)))))
+    ∷ row (reply (lookup_of drive 1 2 4000000001)) (reply (refusal 11 (hop 2 (Some (0, 4000000000)))))
     ∷ row (reply (common_time_of (ranges 10 20 20 30) 3 1)) (reply (answer (at 20)))
-    ∷ row (reply (common_time_of (ranges 20 30 10 19) 3 1)) (reply (refusal 12 (hop 2 (some (20, 30)))))
+    ∷ row (reply (common_time_of (ranges 20 30 10 19) 3 1)) (reply (refusal 12 (hop 2 (Some (20, 30)))))
     ∷ row (next (addition 2 1 Static identity ∷ []) (addition 1 2 Static (moved nan))) (reply (refusal 7 nothing))
     ∷ row (next [] (addition 3 3 Static identity)) (reply (refusal 5 nothing))
     ∷ []

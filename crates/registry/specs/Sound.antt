@@ -1,6 +1,6 @@
 -- "Sound means": one clause for each part of document 01's sentence.
 use Rattle.std.specs.Prelude.{ℕ, zero, suc, ◌^◌, ◌≡◌, Bool, true, false, not, ◌&&◌, ◌||◌, eqb, ltb, leb, length}
-use Rattle.std.proofs.Math.Option.{Option, none, some}
+use Rattle.std.specs.Prelude.{Option, None, Some}
 use Rattle.buffer.specs.Map.{all, get, rising}
 use Rattle.buffer.specs.Row.{is_zero, row_sound}
 use Rattle.registry.specs.Tree.{Edge, Tree, is_absent, above, member}
@@ -21,8 +21,8 @@ parents_differ t = all (λ x. not (eqb x.1.parent x.0)) t
 
 -- where n steps up from f lead
 abbrev pub step_up : Option Edge → ℕ → (ℕ → ℕ) → ℕ
-step_up none f next = f
-step_up (some e) f next = next e.parent
+step_up None f next = f
+step_up (Some e) f next = next e.parent
 
 abbrev pub climb : ℕ → Tree → ℕ → ℕ
 climb zero t f = f

@@ -1,7 +1,7 @@
 -- The three lent slices, and the layout of their words: where they lie, the words that hold rows, and the rows and the tree that words hold. The numbers
 -- of the layout stand in this module alone; all else goes by its names.
 use Rattle.std.specs.Prelude.{ℕ, zero, suc, ◌+◌, ◌*◌, Bool, ◌&&◌, List, [], ◌∷◌, ◌++◌, eqb, leb, length, get_or, set, take, drop, Float}
-use Rattle.std.proofs.Math.Option.{Option, none, some}
+use Rattle.std.specs.Prelude.{Option, None, Some}
 use Rattle.time.specs.Float.{zero64}
 use Rattle.buffer.specs.declared.kind.Kind.{Kind}
 use Rattle.buffer.specs.declared.kind.Kind.TheVariants.{Static, Dynamic}
@@ -42,12 +42,12 @@ kind_word Dynamic = 1
 
 -- the age flag, 0 or 1, and the age
 abbrev pub flag_word : Option ℕ → ℕ
-flag_word none = 0
-flag_word (some age) = 1
+flag_word None = 0
+flag_word (Some age) = 1
 
 abbrev pub age_word : Option ℕ → ℕ
-age_word none = 0
-age_word (some age) = age
+age_word None = 0
+age_word (Some age) = age
 
 -- E, S, N, age flag, age
 abbrev pub header_words : Limits → ℕ → List ℕ
@@ -84,8 +84,8 @@ abbrev pub age_word_in : Store → ℕ
 age_word_in s = get_or s.head 4 0
 
 abbrev pub age_of : ℕ → ℕ → Option ℕ
-age_of zero age = none
-age_of (suc flag) age = some age
+age_of zero age = None
+age_of (suc flag) age = Some age
 
 abbrev pub age_in : Store → Option ℕ
 age_in s = age_of (flag_in s) (age_word_in s)

@@ -1,6 +1,6 @@
 -- The frame tree as document 01 has it: a map from frames to timed poses, with E and S as its bounds, and what an addition and a wipe make of it.
 use Rattle.std.specs.Prelude.{ℕ, zero, suc, Bool, true, false, not, ◌&&◌, ◌||◌, List, [], ◌∷◌, eqb, ltb, leb, length}
-use Rattle.std.proofs.Math.Option.{Option, none, some}
+use Rattle.std.specs.Prelude.{Option, None, Some}
 use Rattle.time.specs.declared.stamp.Stamp.{Stamp}
 use Rattle.time.specs.declared.stamp.Stamp.TheVariants as stamp
 use Rattle.time.specs.Reply.{Carried, nothing, frame, Reply, answer, refusal, refuse, ◌then◌}
@@ -52,12 +52,12 @@ holds_no_frame t = eqb (length t) 0
 -- ---- climbing
 
 abbrev pub is_absent : Option Edge → Bool
-is_absent none = true
-is_absent (some e) = false
+is_absent None = true
+is_absent (Some e) = false
 
 abbrev pub rise : Option Edge → (ℕ → List ℕ) → List ℕ
-rise none next = []
-rise (some e) next = e.parent ∷ next e.parent
+rise None next = []
+rise (Some e) next = e.parent ∷ next e.parent
 
 -- the frames above f, its parent first, at most n of them
 abbrev pub above : ℕ → Tree → ℕ → List ℕ
@@ -82,27 +82,27 @@ same_kind Dynamic Dynamic = true
 
 -- "child is held under another"
 abbrev pub other_parent : Option Edge → ℕ → Bool
-other_parent none p = false
-other_parent (some e) p = not (eqb e.parent p)
+other_parent None p = false
+other_parent (Some e) p = not (eqb e.parent p)
 
 -- "that parent"
 abbrev pub current_parent : Option Edge → Carried
-current_parent none = nothing
-current_parent (some e) = frame e.parent
+current_parent None = nothing
+current_parent (Some e) = frame e.parent
 
 -- "static for moving, or the reverse"
 abbrev pub other_kind : Option Edge → Kind → Bool
-other_kind none k = false
-other_kind (some e) k = not (same_kind e.kind k)
+other_kind None k = false
+other_kind (Some e) k = not (same_kind e.kind k)
 
 -- the child's edge with the pose put in and then what is too old dropped
 abbrev pub updated_edge : Option ℕ → Addition → Option Edge → Edge
-updated_edge age a none = record {
+updated_edge age a None = record {
   parent = a.parent;
   kind = kind_of a.stamp;
   samples = insert age (instant_of a.stamp) a.pose [];
 }
-updated_edge age a (some e) = record {
+updated_edge age a (Some e) = record {
   parent = e.parent;
   kind = e.kind;
   samples = insert age (instant_of a.stamp) a.pose e.samples;
@@ -127,8 +127,8 @@ add L t a = add_to L t a (get t a.child)
 -- ---- wipe
 
 abbrev pub wiped : ℕ → ℕ → Tree → Option Edge → Reply Tree
-wiped f i t none = refusal 9 (frame f)
-wiped f i t (some e) = answer (put f (record { parent = e.parent; kind = e.kind; samples = remove_before e.kind i e.samples }) t)
+wiped f i t None = refusal 9 (frame f)
+wiped f i t (Some e) = answer (put f (record { parent = e.parent; kind = e.kind; samples = remove_before e.kind i e.samples }) t)
 
 -- "A wipe drops a moving child's poses before its instant"; 9 for a frame that is no child
 unfoldable pub wipe : Tree → ℕ → ℕ → Reply Tree

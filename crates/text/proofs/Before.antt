@@ -1,7 +1,7 @@
 -- What stands before the first of a byte and behind it: where that byte stands, and both as parts of the word. Assumes nothing.
 use mathlib.Core.Path.{◌≡◌, refl, sym, ap, ◌∙◌}
 use mathlib.Core.Bool.{Bool, true, false, cond}
-use mathlib.Core.Option.{none, some}
+use Rattle.std.specs.Prelude.{None, Some}
 use mathlib.Core.List.{List, [], ◌∷◌}
 use Prim.Native.Nat.{ℕ, suc, ◌+◌, ◌-◌, ◌≤◌, ◌<◌}
 use native.Mathlib.Nat.{le_of_eq}
@@ -41,22 +41,22 @@ module _ (b : ℕ) where
       go false h = ap (λ (r : List ℕ). c ∷ r) h
 
   -- the byte stands nowhere
-  pub behind_none : (l : List ℕ) → length (before b l) ≡ length l → (before b l ≡ l) × (behind b l ≡ none)
+  pub behind_none : (l : List ℕ) → length (before b l) ≡ length l → (before b l ≡ l) × (behind b l ≡ None)
   behind_none [] e = (refl, refl)
   behind_none (c ∷ l) e = go (eqb c b) (behind_none l) e
     where
-      go : (t : Bool) → (length (before b l) ≡ length l → (before b l ≡ l) × (behind b l ≡ none)) → length (cond t [] (c ∷ before b l)) ≡ suc (length l)
-          → (cond t [] (c ∷ before b l) ≡ c ∷ l) × (cond t (some l) (behind b l) ≡ none)
+      go : (t : Bool) → (length (before b l) ≡ length l → (before b l ≡ l) × (behind b l ≡ None)) → length (cond t [] (c ∷ before b l)) ≡ suc (length l)
+          → (cond t [] (c ∷ before b l) ≡ c ∷ l) × (cond t (Some l) (behind b l) ≡ None)
       go true h e = absurd (omega arith)
       go false h e = let r = h (omega arith) in (ap (λ (x : List ℕ). c ∷ x) r.0, r.1)
 
   -- it stands behind what is before it
-  pub behind_some : (l : List ℕ) → (length (before b l) ≡ length l → ⊥) → behind b l ≡ some (drop (suc (length (before b l))) l)
+  pub behind_some : (l : List ℕ) → (length (before b l) ≡ length l → ⊥) → behind b l ≡ Some (drop (suc (length (before b l))) l)
   behind_some [] e = absurd (e refl)
   behind_some (c ∷ l) e = go (eqb c b) (behind_some l) e
     where
-      go : (t : Bool) → ((length (before b l) ≡ length l → ⊥) → behind b l ≡ some (drop (suc (length (before b l))) l)) → (length (cond t [] (c ∷ before b l)) ≡ suc (length l) → ⊥)
-          → cond t (some l) (behind b l) ≡ some (drop (length (cond t [] (c ∷ before b l))) l)
+      go : (t : Bool) → ((length (before b l) ≡ length l → ⊥) → behind b l ≡ Some (drop (suc (length (before b l))) l)) → (length (cond t [] (c ∷ before b l)) ≡ suc (length l) → ⊥)
+          → cond t (Some l) (behind b l) ≡ Some (drop (length (cond t [] (c ∷ before b l))) l)
       go true h e = refl
       go false h e = h (λ d. e (omega arith))
 
@@ -75,14 +75,14 @@ module _ (b : ℕ) (w : List ℕ) (i : ℕ) (at : i ≡ 0 + length (before b w))
       width : i - 0 ≡ length (before b w)
       width = omega arith
 
-  pub cut_nowhere : i ≡ length w → (before b w ≡ w) × (behind b w ≡ none)
+  pub cut_nowhere : i ≡ length w → (before b w ≡ w) × (behind b w ≡ None)
   cut_nowhere h = behind_none b w (omega arith)
 
   pub cut_inside : (i ≡ length w → ⊥) → i < length w
   cut_inside h = omega (arith, before_within b w)
 
-  pub cut_rest : (i ≡ length w → ⊥) → behind b w ≡ some (take (length w - (i + 1)) (drop (i + 1) w))
-  cut_rest h = behind_some b w (λ e. h (omega arith)) ∙ ap (λ (k : ℕ). some (drop k w)) place ∙ ap some (sym (part_to_end w (i + 1)))
+  pub cut_rest : (i ≡ length w → ⊥) → behind b w ≡ Some (take (length w - (i + 1)) (drop (i + 1) w))
+  cut_rest h = behind_some b w (λ e. h (omega arith)) ∙ ap (λ (k : ℕ). Some (drop k w)) place ∙ ap Some (sym (part_to_end w (i + 1)))
     where
       place : suc (length (before b w)) ≡ i + 1
       place = omega arith

@@ -1,7 +1,7 @@
 -- The number that digits are: one digit more, a byte that is none, and a number that 64 bits do not hold. Assumes nothing.
 use mathlib.Core.Path.{◌≡◌, refl, ap, ◌∙◌}
 use mathlib.Core.Bool.{Bool, true, false, cond}
-use mathlib.Core.Option.{none, some}
+use Rattle.std.specs.Prelude.{None, Some}
 use mathlib.Core.List.{List, [], ◌∷◌}
 use Prim.Native.Nat.{ℕ, suc, ◌+◌, ◌*◌, ◌/◌, ◌≤◌, ◌<◌}
 use native.Mathlib.Nat.{mul-le-mul_left, mul-one, le-div_iff_mul-le, div-lt_iff_lt-mul}
@@ -19,26 +19,26 @@ module _ (base : ℕ) where
       → number_from base n (drop i w) ≡ number_from base (n * base + digit (get_or w i 0)) (drop (i + 1) w)
   number_more w n i h d = ap (number_from base n) (drop-cons w i 0 h) ∙ simp (lt-ltb (digit (get_or w i 0)) base d, add-one)
 
-  pub number_other : (w : List ℕ) (n i : ℕ) → i < length w → base ≤ digit (get_or w i 0) → number_from base n (drop i w) ≡ none
+  pub number_other : (w : List ℕ) (n i : ℕ) → i < length w → base ≤ digit (get_or w i 0) → number_from base n (drop i w) ≡ None
   number_other w n i h d = ap (number_from base n) (drop-cons w i 0 h) ∙ simp (le-ltb (digit (get_or w i 0)) base d)
 
-  pub number_last : (w : List ℕ) (n i : ℕ) → length w ≤ i → number_from base n (drop i w) ≡ some n
+  pub number_last : (w : List ℕ) (n i : ℕ) → length w ≤ i → number_from base n (drop i w) ≡ Some n
   number_last w n i h = ap (number_from base n) (drop_of_length-le w h)
 
   -- further digits make no number less
-  first : (bound n c : ℕ) (w : List ℕ) → below bound (number_from base (n * base + digit c) w) ≡ none → below bound (number_from base n (c ∷ w)) ≡ none
+  first : (bound n c : ℕ) (w : List ℕ) → below bound (number_from base (n * base + digit c) w) ≡ None → below bound (number_from base n (c ∷ w)) ≡ None
   first bound n c w e = go (ltb (digit c) base)
     where
-      go : (b : Bool) → below bound (cond b (number_from base (n * base + digit c) w) none) ≡ none
+      go : (b : Bool) → below bound (cond b (number_from base (n * base + digit c) w) None) ≡ None
       go true = e
       go false = refl
 
   module _ (positive : 0 < base) (bound : ℕ) where
-    number_above : (n : ℕ) (w : List ℕ) → bound ≤ n → below bound (number_from base n w) ≡ none
+    number_above : (n : ℕ) (w : List ℕ) → bound ≤ n → below bound (number_from base n w) ≡ None
     number_above n [] h = simp (le-ltb n bound h)
     number_above n (c ∷ w) h = first bound n c w (number_above (n * base + digit c) w (omega (arith, mul-le-mul_left n positive, mul-one n)))
 
-    pub number_over : (w : List ℕ) (n i : ℕ) → i < length w → bound ≤ n * base + digit (get_or w i 0) → below bound (number_from base n (drop i w)) ≡ none
+    pub number_over : (w : List ℕ) (n i : ℕ) → i < length w → bound ≤ n * base + digit (get_or w i 0) → below bound (number_from base n (drop i w)) ≡ None
     number_over w n i h o = ap (λ (l : List ℕ). below bound (number_from base n l)) (drop-cons w i 0 h) ∙ first bound n (get_or w i 0) (drop (suc i) w) (number_above (n * base + digit (get_or w i 0)) (drop (suc i) w) o)
 
 -- the test before a product

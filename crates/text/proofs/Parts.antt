@@ -1,7 +1,7 @@
 -- The parts of a decimal: its digits, its exponent and its sign, as parts of the word. Assumes nothing.
 use mathlib.Core.Path.{◌≡◌, refl, sym, ap, ap₂, ◌∙◌}
 use mathlib.Core.Bool.{Bool, true, false, cond, ◌&&◌}
-use mathlib.Core.Option.{Option, none, some, map}
+use Rattle.std.specs.Prelude.{Option, None, Some, option_map}
 use mathlib.Core.List.{List, [], ◌∷◌}
 use Prim.Native.Nat.{ℕ, ◌+◌, ◌-◌, ◌^◌, ◌<◌}
 use native.Mathlib.Omega.{arith}
@@ -17,11 +17,11 @@ use Rattle.text.proofs.Forms.{given, none_from}
 
 -- ---- one or more digits
 
-pub none_empty : (w : List ℕ) (n : ℕ) → length w ≡ 0 → none ≡ going_on (digits_after (some n) w) (length w)
+pub none_empty : (w : List ℕ) (n : ℕ) → length w ≡ 0 → None ≡ going_on (digits_after (Some n) w) (length w)
 none_empty [] n h = refl
 none_empty (c ∷ w) n h = absurd (omega arith)
 
-pub some_read : (w : List ℕ) (n : ℕ) → (length w ≡ 0 → ⊥) → going_on (below (2 ^ 64) (number_from 10 n w)) (length w) ≡ going_on (digits_after (some n) w) (length w)
+pub some_read : (w : List ℕ) (n : ℕ) → (length w ≡ 0 → ⊥) → going_on (below (2 ^ 64) (number_from 10 n w)) (length w) ≡ going_on (digits_after (Some n) w) (length w)
 some_read [] n h = absurd (h refl)
 some_read (c ∷ w) n h = refl
 
@@ -29,7 +29,7 @@ some_read (c ∷ w) n h = refl
 
 -- digits that follow n, with the place behind them
 abbrev pub After : ℕ → List ℕ → Option (ℕ × ℕ)
-After n u = going_on (digits_after (some n) u) (length u)
+After n u = going_on (digits_after (Some n) u) (length u)
 
 -- the point is at the place i, or nowhere and i is the length
 module _ (w : List ℕ) (i : ℕ) (at : i ≡ 0 + length (before 46 w)) where
@@ -43,32 +43,32 @@ module _ (w : List ℕ) (i : ℕ) (at : i ≡ 0 + length (before 46 w)) where
   abbrev Read : Option (ℕ × ℕ) → Type 0
   Read o = o ≡ significand (before 46 w) (behind 46 w)
 
-  front_is : digits_after (some 0) (before 46 w) ≡ digits_after (some 0) front
-  front_is = ap (digits_after (some 0)) (sym (cut_front 46 w i at))
+  front_is : digits_after (Some 0) (before 46 w) ≡ digits_after (Some 0) front
+  front_is = ap (digits_after (Some 0)) (sym (cut_front 46 w i at))
 
-  pub no_front : none ≡ After 0 front → Read none
-  no_front e = go (behind 46 w) (front_is ∙ none_from (digits_after (some 0) front) (length front) e)
+  pub no_front : None ≡ After 0 front → Read None
+  no_front e = go (behind 46 w) (front_is ∙ none_from (digits_after (Some 0) front) (length front) e)
     where
-      go : (f : Option (List ℕ)) → digits_after (some 0) (before 46 w) ≡ none → none ≡ significand (before 46 w) f
-      go none h = ap (map (λ (d : ℕ). (d, 0))) (sym h)
-      go (some fraction) h = ap (λ (o : Option ℕ). map (λ (d : ℕ). (d, length fraction)) (digits_after o fraction)) (sym h)
+      go : (f : Option (List ℕ)) → digits_after (Some 0) (before 46 w) ≡ None → None ≡ significand (before 46 w) f
+      go None h = ap (option_map (λ (d : ℕ). (d, 0))) (sym h)
+      go (Some fraction) h = ap (λ (o : Option ℕ). option_map (λ (d : ℕ). (d, length fraction)) (digits_after o fraction)) (sym h)
 
-  module _ {n k : ℕ} (e : some (n, k) ≡ After 0 front) where
-    front_number : digits_after (some 0) (before 46 w) ≡ some n
-    front_number = front_is ∙ (given (digits_after (some 0) front) (length front) e).0
+  module _ {n k : ℕ} (e : Some (n, k) ≡ After 0 front) where
+    front_number : digits_after (Some 0) (before 46 w) ≡ Some n
+    front_number = front_is ∙ (given (digits_after (Some 0) front) (length front) e).0
 
-    pub front_alone : i ≡ length w → Read (some (n, 0))
-    front_alone h = sym (ap (significand (before 46 w)) (cut_nowhere 46 w i at h).1 ∙ ap (map (λ (d : ℕ). (d, 0))) front_number)
+    pub front_alone : i ≡ length w → Read (Some (n, 0))
+    front_alone h = sym (ap (significand (before 46 w)) (cut_nowhere 46 w i at h).1 ∙ ap (option_map (λ (d : ℕ). (d, 0))) front_number)
 
     pub both_parts : (i ≡ length w → ⊥) → Read (After n rest)
     both_parts h =
-        same (digits_after (some n) rest)
-        ∙ ap (λ (o : Option ℕ). map (λ (d : ℕ). (d, length rest)) (digits_after o rest)) (sym front_number)
+        same (digits_after (Some n) rest)
+        ∙ ap (λ (o : Option ℕ). option_map (λ (d : ℕ). (d, length rest)) (digits_after o rest)) (sym front_number)
         ∙ ap (significand (before 46 w)) (sym (cut_rest 46 w i at h))
       where
-        same : (o : Option ℕ) → going_on o (length rest) ≡ map (λ (d : ℕ). (d, length rest)) o
-        same none = refl
-        same (some d) = refl
+        same : (o : Option ℕ) → going_on o (length rest) ≡ option_map (λ (d : ℕ). (d, length rest)) o
+        same None = refl
+        same (Some d) = refl
 
 -- ---- what begins with `-` (45), and what does not
 
@@ -77,46 +77,46 @@ abbrev tail : List ℕ → List ℕ
 tail t = take (length t - 1) (drop 1 t)
 
 -- a number read, or none, as an exponent
-exponent_value : (f : ℕ → ℕ × ℕ) (u : List ℕ) {n k : ℕ} → some (n, k) ≡ After 0 u → some (f n) ≡ map f (digits_after (some 0) u)
-exponent_value f u e = ap (map f) (sym (given (digits_after (some 0) u) (length u) e).0)
+exponent_value : (f : ℕ → ℕ × ℕ) (u : List ℕ) {n k : ℕ} → Some (n, k) ≡ After 0 u → Some (f n) ≡ option_map f (digits_after (Some 0) u)
+exponent_value f u e = ap (option_map f) (sym (given (digits_after (Some 0) u) (length u) e).0)
 
-exponent_none : (f : ℕ → ℕ × ℕ) (u : List ℕ) → none ≡ After 0 u → none ≡ map f (digits_after (some 0) u)
-exponent_none f u e = ap (map f) (sym (none_from (digits_after (some 0) u) (length u) e))
+exponent_none : (f : ℕ → ℕ × ℕ) (u : List ℕ) → None ≡ After 0 u → None ≡ option_map f (digits_after (Some 0) u)
+exponent_none f u e = ap (option_map f) (sym (none_from (digits_after (Some 0) u) (length u) e))
 
-pub exponent_empty : (t : List ℕ) → length t ≡ 0 → none ≡ exponent (some t)
+pub exponent_empty : (t : List ℕ) → length t ≡ 0 → None ≡ exponent (Some t)
 exponent_empty [] h = refl
 exponent_empty (c ∷ t) h = absurd (omega arith)
 
 module _ (t : List ℕ) (filled : length t ≡ 0 → ⊥) where
   module _ (e : get_or t 0 0 ≡ 45) where
-    minus : map (λ (n : ℕ). (0, n)) (digits_after (some 0) (tail t)) ≡ exponent (some t)
+    minus : option_map (λ (n : ℕ). (0, n)) (digits_after (Some 0) (tail t)) ≡ exponent (Some t)
     minus = go t filled e
       where
-        go : (t : List ℕ) → (length t ≡ 0 → ⊥) → get_or t 0 0 ≡ 45 → map (λ (n : ℕ). (0, n)) (digits_after (some 0) (tail t)) ≡ exponent (some t)
+        go : (t : List ℕ) → (length t ≡ 0 → ⊥) → get_or t 0 0 ≡ 45 → option_map (λ (n : ℕ). (0, n)) (digits_after (Some 0) (tail t)) ≡ exponent (Some t)
         go [] h e = absurd (h refl)
         go (c ∷ t) h e = simp (eq-eqb c 45 e, part_to_end (c ∷ t) 1)
 
-    pub exponent_down : {n k : ℕ} → some (n, k) ≡ After 0 (tail t) → some (0, n) ≡ exponent (some t)
+    pub exponent_down : {n k : ℕ} → Some (n, k) ≡ After 0 (tail t) → Some (0, n) ≡ exponent (Some t)
     exponent_down r = exponent_value (λ (n : ℕ). (0, n)) (tail t) r ∙ minus
 
-    pub exponent_down_none : none ≡ After 0 (tail t) → none ≡ exponent (some t)
+    pub exponent_down_none : None ≡ After 0 (tail t) → None ≡ exponent (Some t)
     exponent_down_none r = exponent_none (λ (n : ℕ). (0, n)) (tail t) r ∙ minus
 
   module _ (e : get_or t 0 0 ≡ 45 → ⊥) where
-    plain : map (λ (n : ℕ). (n, 0)) (digits_after (some 0) t) ≡ exponent (some t)
+    plain : option_map (λ (n : ℕ). (n, 0)) (digits_after (Some 0) t) ≡ exponent (Some t)
     plain = go t filled e
       where
-        go : (t : List ℕ) → (length t ≡ 0 → ⊥) → (get_or t 0 0 ≡ 45 → ⊥) → map (λ (n : ℕ). (n, 0)) (digits_after (some 0) t) ≡ exponent (some t)
+        go : (t : List ℕ) → (length t ≡ 0 → ⊥) → (get_or t 0 0 ≡ 45 → ⊥) → option_map (λ (n : ℕ). (n, 0)) (digits_after (Some 0) t) ≡ exponent (Some t)
         go [] h e = absurd (h refl)
         go (c ∷ t) h e = simp (ne_eqb c 45 e)
 
-    pub exponent_up : {n k : ℕ} → some (n, k) ≡ After 0 t → some (n, 0) ≡ exponent (some t)
+    pub exponent_up : {n k : ℕ} → Some (n, k) ≡ After 0 t → Some (n, 0) ≡ exponent (Some t)
     exponent_up r = exponent_value (λ (n : ℕ). (n, 0)) t r ∙ plain
 
-    pub exponent_up_none : none ≡ After 0 t → none ≡ exponent (some t)
+    pub exponent_up_none : None ≡ After 0 t → None ≡ exponent (Some t)
     exponent_up_none r = exponent_none (λ (n : ℕ). (n, 0)) t r ∙ plain
 
-pub decimal_empty : (t : List ℕ) (next : ℕ) → length t ≡ 0 → none ≡ going_on (decimal t) next
+pub decimal_empty : (t : List ℕ) (next : ℕ) → length t ≡ 0 → None ≡ going_on (decimal t) next
 decimal_empty [] next h = refl
 decimal_empty (c ∷ t) next h = absurd (omega arith)
 
@@ -130,28 +130,28 @@ decimal_plain (c ∷ t) next h e = simp (ne_eqb c 45 e)
 
 -- ---- digits times a power
 
-pub product_at : (negative : Bool) (next : ℕ) {s e : Option (ℕ × ℕ)} {d places up down : ℕ} → s ≡ some (d, places) → e ≡ some (up, down)
+pub product_at : (negative : Bool) (next : ℕ) {s e : Option (ℕ × ℕ)} {d places up down : ℕ} → s ≡ Some (d, places) → e ≡ Some (up, down)
     → going_on (scaled negative d up (down + places)) next ≡ going_on (product negative s e) next
 product_at negative next p q = sym (ap₂ (λ (s e : Option (ℕ × ℕ)). going_on (product negative s e) next) p q)
 
 -- the power -(n + places) where 64 bits do not hold n + places
-pub far_below : (negative : Bool) (d n places next : ℕ) → 18446744073709551615 - n < places → none ≡ going_on (scaled negative d 0 (n + places)) next
+pub far_below : (negative : Bool) (d n places next : ℕ) → 18446744073709551615 - n < places → None ≡ going_on (scaled negative d 0 (n + places)) next
 far_below negative d n places next h = simp (le-leb 0 (n + places + 22) (omega arith), lt-leb (n + places) (0 + 22) (omega arith)) (either (ltb d (10 ^ 15)))
   where
-    either : (b : Bool) → none ≡ going_on {A = Float} (cond (b && false) (some (rounded negative d 0 (n + places))) none) next
+    either : (b : Bool) → None ≡ going_on {A = Float} (cond (b && false) (Some (rounded negative d 0 (n + places))) None) next
     either true = refl
     either false = refl
 
 -- cut at an `e` (101)
 module _ (negative : Bool) (w : List ℕ) (i next : ℕ) (at : i ≡ 0 + length (before 101 w)) where
-  pub without_exponent : i ≡ length w → going_on (product negative (significand (before 46 w) (behind 46 w)) (some (0, 0))) next ≡ going_on (unsigned negative w) next
+  pub without_exponent : i ≡ length w → going_on (product negative (significand (before 46 w) (behind 46 w)) (Some (0, 0))) next ≡ going_on (unsigned negative w) next
   without_exponent h =
       let c = cut_nowhere 101 w i at h in
       sym (ap (λ (o : Option (List ℕ)). going_on (product negative (significand (before 46 (before 101 w)) (behind 46 (before 101 w))) (exponent o)) next) c.1
-      ∙ ap (λ (u : List ℕ). going_on (product negative (significand (before 46 u) (behind 46 u)) (some (0, 0))) next) c.0)
+      ∙ ap (λ (u : List ℕ). going_on (product negative (significand (before 46 u) (behind 46 u)) (Some (0, 0))) next) c.0)
 
   pub with_exponent : (i ≡ length w → ⊥)
-      → going_on (product negative (significand (before 46 (take (i - 0) (drop 0 w))) (behind 46 (take (i - 0) (drop 0 w)))) (exponent (some (take (length w - (i + 1)) (drop (i + 1) w))))) next ≡ going_on (unsigned negative w) next
+      → going_on (product negative (significand (before 46 (take (i - 0) (drop 0 w))) (behind 46 (take (i - 0) (drop 0 w)))) (exponent (Some (take (length w - (i + 1)) (drop (i + 1) w))))) next ≡ going_on (unsigned negative w) next
   with_exponent h =
       ap (λ (o : Option (List ℕ)). going_on (product negative (significand (before 46 (take (i - 0) (drop 0 w))) (behind 46 (take (i - 0) (drop 0 w)))) (exponent o)) next) (sym (cut_rest 101 w i at h))
       ∙ ap (λ (u : List ℕ). going_on (product negative (significand (before 46 u) (behind 46 u)) (exponent (behind 101 w))) next) (cut_front 101 w i at)

@@ -1,7 +1,7 @@
 -- The digits times a power of ten: which are refused, and the one step that gives the others. Assumes nothing.
 use mathlib.Core.Path.{◌≡◌, sym, ap, ◌∙◌}
 use mathlib.Core.Bool.{Bool, false}
-use mathlib.Core.Option.{Option, none, some}
+use Rattle.std.specs.Prelude.{Option, None, Some}
 use Prim.Native.Nat.{ℕ, ◌+◌, ◌-◌, ◌*◌, ◌^◌, ◌≤◌, ◌<◌}
 use native.Mathlib.Nat.{mul-one, one-le-pow, zero-lt-suc}
 use native.Mathlib.Omega.{arith}
@@ -17,28 +17,28 @@ module _ (negative : Bool) (d up down next : ℕ) where
   abbrev Read : Option (Float × ℕ) → Type 0
   Read o = o ≡ going_on (scaled negative d up down) next
 
-  pub too_many : 999999999999999 < d → Read none
+  pub too_many : 999999999999999 < d → Read None
   too_many h = simp (le-ltb d (10 ^ 15) h)
 
   module _ (few : d ≤ 999999999999999) where
-    pub too_high_lem : down ≤ up → 22 < up - down → Read none
+    pub too_high_lem : down ≤ up → 22 < up - down → Read None
     too_high_lem h g = simp (lt-ltb d (10 ^ 15) (omega arith), lt-leb up (down + 22) (omega arith))
 
-    pub too_low_lem : up < down → 22 < down - up → Read none
+    pub too_low_lem : up < down → 22 < down - up → Read None
     too_low_lem h g = simp (lt-ltb d (10 ^ 15) (omega arith), le-leb up (down + 22) (omega arith), lt-leb down (up + 22) (omega arith))
 
-    within : (x : Float) → x ≡ rounded negative d up down → up ≤ down + 22 → down ≤ up + 22 → Read (some (x, next))
-    within x e h g = simp (lt-ltb d (10 ^ 15) (omega arith), le-leb up (down + 22) h, le-leb down (up + 22) g) (ap (λ (z : Float). some (z, next)) e)
+    within : (x : Float) → x ≡ rounded negative d up down → up ≤ down + 22 → down ≤ up + 22 → Read (Some (x, next))
+    within x e h g = simp (lt-ltb d (10 ^ 15) (omega arith), le-leb up (down + 22) h, le-leb down (up + 22) g) (ap (λ (z : Float). Some (z, next)) e)
 
     -- one product or one quotient of exact floats
     module _ (x y : Float) (p : HasValue x negative d 1) where
-      pub multiplied : down ≤ up → up - down ≤ 22 → HasValue y false (10 ^ (up - down)) 1 → Read (some (mul binary64 x y, next))
+      pub multiplied : down ≤ up → up - down ≤ 22 → HasValue y false (10 ^ (up - down)) 1 → Read (Some (mul binary64 x y, next))
       multiplied h g q =
           let z : 0 ≡ down - up = omega arith in
           let e = product_rounded negative d (10 ^ (up - down)) x y p q in
           within (mul binary64 x y) (e ∙ ap (λ (k : ℕ). round binary64 negative (d * 10 ^ (up - down)) (10 ^ k)) z) (omega arith) (omega arith)
 
-      pub divided : up < down → down - up ≤ 22 → HasValue y false (10 ^ (down - up)) 1 → Read (some (div binary64 x y, next))
+      pub divided : up < down → down - up ≤ 22 → HasValue y false (10 ^ (down - up)) 1 → Read (Some (div binary64 x y, next))
       divided h g q =
           let z : 0 ≡ up - down = omega arith in
           let e = quotient_rounded negative d (10 ^ (down - up)) (one-le-pow (down - up) 10 (zero-lt-suc 9)) x y p q in

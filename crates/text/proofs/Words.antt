@@ -1,7 +1,7 @@
 -- The word at a place: where it ends, that it lies within the line, and what is read from it. Assumes nothing.
 use mathlib.Core.Path.{◌≡◌, refl, ap, ◌∙◌}
 use mathlib.Core.Bool.{cond}
-use mathlib.Core.Option.{Option, none}
+use Rattle.std.specs.Prelude.{Option, None}
 use mathlib.Core.List.{List, [], ◌∷◌}
 use Prim.Native.Nat.{ℕ, ◌+◌, ◌-◌, ◌≤◌, ◌<◌}
 use native.Mathlib.Omega.{arith}
@@ -21,11 +21,11 @@ module _ (l : List ℕ) (at end : ℕ) (e : end ≡ at + length (word_at l at)) 
   pub end_within : (end ≡ at → ⊥) → end ≤ length l
   end_within ne = omega (arith, before_within 32 (drop at l), ap length (up_is_before (drop at l)), length-drop at l)
 
-  pub no_word : {A : Type 0} (form : List ℕ → Option A) → end ≡ at → none ≡ read_at form l at
+  pub no_word : {A : Type 0} (form : List ℕ → Option A) → end ≡ at → None ≡ read_at form l at
   unfolding read_at
   no_word form h = go (word_at l at) (omega arith)
     where
-      go : (w : List ℕ) → length w ≡ 0 → none ≡ going_on (not_empty form w) (at + length w + 1)
+      go : (w : List ℕ) → length w ≡ 0 → None ≡ going_on (not_empty form w) (at + length w + 1)
       go [] z = refl
       go (c ∷ w) z = absurd (omega arith)
 

@@ -1,6 +1,6 @@
 -- What each case of the enums of reading says: a value and where the text goes on, or none for malformed.
 use Rattle.std.specs.Prelude.{ℕ, ◌+◌, ◌-◌, List, take, drop, Float}
-use Rattle.std.proofs.Math.Option.{Option, none, some}
+use Rattle.std.specs.Prelude.{Option, None, Some}
 use Rattle.text.specs.declared.read.Word.{Word}
 use Rattle.text.specs.declared.read.Word.TheVariants as word
 use Rattle.text.specs.declared.read.Number.{Number}
@@ -18,34 +18,34 @@ use Rattle.text.specs.declared.decimal.Exponent.TheVariants as exponent
 
 -- the word that starts at a place of a line and ends before `end`
 abbrev pub word_read : List ℕ → ℕ → Word → Option (List ℕ × ℕ)
-word_read line at (word.Until end) = some (take (end - at) (drop at line), end + 1)
-word_read line at word.Malformed = none
+word_read line at (word.Until end) = Some (take (end - at) (drop at line), end + 1)
+word_read line at word.Malformed = None
 
 -- a number, a frame, a float
 abbrev pub number_read : Number → Option (ℕ × ℕ)
-number_read (number.Value n next) = some (n, next)
-number_read number.Malformed = none
+number_read (number.Value n next) = Some (n, next)
+number_read number.Malformed = None
 
 abbrev pub frame_read : Frame → Option (ℕ × ℕ)
-frame_read (frame.Value n next) = some (n, next)
-frame_read frame.Malformed = none
+frame_read (frame.Value n next) = Some (n, next)
+frame_read frame.Malformed = None
 
 abbrev pub float_read : FloatWord → Option (Float × ℕ)
-float_read (float.Value x next) = some (x, next)
-float_read float.Malformed = none
+float_read (float.Value x next) = Some (x, next)
+float_read float.Malformed = None
 
 -- the keyword itself is all that is read
 abbrev pub keyword_read : Keyword → Option (Unit {0} × ℕ)
-keyword_read (keyword.Next next) = some (tt, next)
-keyword_read keyword.Other = none
+keyword_read (keyword.Next next) = Some (tt, next)
+keyword_read keyword.Other = None
 
 -- a byte
 abbrev pub byte_read : Byte → Option ℕ
-byte_read (byte.Value b) = some b
-byte_read byte.Malformed = none
+byte_read (byte.Value b) = Some b
+byte_read byte.Malformed = None
 
 -- an exponent of a decimal, above zero or below; no public contract rests on it
 abbrev pub exponent_read : Exponent → Option (ℕ × ℕ)
-exponent_read (exponent.Up n) = some (n, 0)
-exponent_read (exponent.Down n) = some (0, n)
-exponent_read exponent.Malformed = none
+exponent_read (exponent.Up n) = Some (n, 0)
+exponent_read (exponent.Down n) = Some (0, n)
+exponent_read exponent.Malformed = None

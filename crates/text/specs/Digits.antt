@@ -1,6 +1,6 @@
 -- Digits of bases up to 16, as bytes of ASCII.
 use Rattle.std.specs.Prelude.{ℕ, zero, suc, ◌+◌, ◌-◌, ◌*◌, ◌/◌, ◌%◌, ◌^◌, cond, ◌&&◌, List, [], ◌∷◌, ◌++◌, leb, ltb}
-use Rattle.std.proofs.Math.Option.{Option, none, some}
+use Rattle.std.specs.Prelude.{Option, None, Some}
 
 -- the byte of a digit: `0` to `9`, then `a` to `f`
 abbrev pub digit_character : ℕ → ℕ
@@ -17,13 +17,13 @@ digits base (suc k) n = digits base k (n / base) ++ (digit_character (n % base) 
 
 -- the number that a word's digits are where they follow the number n; none: a byte is no digit of the base
 abbrev pub number_from : ℕ → ℕ → List ℕ → Option ℕ
-number_from base n [] = some n
-number_from base n (c ∷ word) = cond (ltb (digit c) base) (number_from base (n * base + digit c) word) none
+number_from base n [] = Some n
+number_from base n (c ∷ word) = cond (ltb (digit c) base) (number_from base (n * base + digit c) word) None
 
 -- a number below the bound
 abbrev pub below : ℕ → Option ℕ → Option ℕ
-below bound none = none
-below bound (some n) = cond (ltb n bound) (some n) none
+below bound None = None
+below bound (Some n) = cond (ltb n bound) (Some n) None
 
 -- the number that the digits of a word are, where 64 bits hold it
 abbrev pub number_in : ℕ → List ℕ → Option ℕ

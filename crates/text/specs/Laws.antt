@@ -1,7 +1,7 @@
 -- What holds of reading and writing together, proved in proofs/RoundTrip.antt, of texts written one behind the other, proved in
 -- proofs/WrittenWhole.antt, and of decimals, proved in proofs/DecimalNearest.antt.
 use Rattle.std.specs.Prelude.{ℕ, ◌+◌, ◌-◌, ◌*◌, ◌^◌, ◌≤◌, ◌<◌, ◌≡◌, Bool, false, List, [], ◌++◌, T, length, take, get_or, Float}
-use Rattle.std.proofs.Math.Option.{Option, none, some}
+use Rattle.std.specs.Prelude.{Option, None, Some}
 use Rattle.std.specs.Float.{nan, binary64}
 use Rattle.std.specs.Float.Ieee.{fits, is_nan}
 use Rattle.std.specs.Float.Ieee.Exact.{HasValue}
@@ -12,7 +12,7 @@ use Rattle.text.specs.Writing.{number_text, float_text, byte_text, written, writ
 -- wherever the text stands in a line, with the line's end or a space behind it, the value is read and the text goes on behind that
 abbrev pub ReadBack : {A : Type 0} → (List ℕ → Option A) → A → List ℕ → Type 0
 ReadBack form a text = (before after : List ℕ) → up_to_space after ≡ []
-    → read_at form (before ++ (text ++ after)) (length before) ≡ some (a, length before + length text + 1)
+    → read_at form (before ++ (text ++ after)) (length before) ≡ Some (a, length before + length text + 1)
 
 -- reading what writing a number wrote gives the number back
 abbrev pub NumberBack : Type 0
@@ -28,17 +28,17 @@ FloatBack = (x : Float) → T (fits binary64 x) → is_nan x ≡ false → ReadB
 
 -- the digits of a byte are read as that byte
 abbrev pub ByteBack : Type 0
-ByteBack = (b : ℕ) → b < 256 → byte (byte_text b) ≡ some b
+ByteBack = (b : ℕ) → b < 256 → byte (byte_text b) ≡ Some b
 
 -- `nan` is not read
 abbrev pub NanNotRead : Type 0
-NanNotRead = float (float_text nan) ≡ none
+NanNotRead = float (float_text nan) ≡ None
 
 -- what is read back wherever it stands is read from the buffer that it was written into, up to the next place
 abbrev pub WrittenBack : Type 1
 WrittenBack = (A : Type 0) (form : List ℕ → Option A) (a : A) (text : List ℕ) → ReadBack form a text
     → (out : List ℕ) (at : ℕ) → at + length text ≤ length out
-    → read_at form (take (written out at text).0 (written out at text).1) at ≡ some (a, (written out at text).0 + 1)
+    → read_at form (take (written out at text).0 (written out at text).1) at ≡ Some (a, (written out at text).0 + 1)
 
 -- the text of a number above 0 begins with no `0` (48)
 abbrev pub NoZeroInFront : Type 0

@@ -1,6 +1,7 @@
 -- The words of a line, and what each form of word stands for. None: malformed.
 use Rattle.std.specs.Prelude.{ℕ, ◌+◌, ◌^◌, Bool, true, false, cond, ◌&&◌, List, [], ◌∷◌, eqb, length, take, drop, Float}
-use Rattle.std.proofs.Math.Option.{Option, none, some, map, or_else}
+use Rattle.std.specs.Prelude.{Option, None, Some, option_map}
+use Rattle.std.specs.Option.{option_or}
 use Rattle.std.specs.Float.{binary64}
 use Rattle.std.specs.Float.Ieee.{of_bits}
 use Rattle.text.specs.Digits.{below, number_in}
@@ -17,12 +18,12 @@ word_at line at = up_to_space (drop at line)
 
 -- a value and the place where the text goes on
 abbrev pub going_on : {A : Type 0} → Option A → ℕ → Option (A × ℕ)
-going_on none next = none
-going_on (some a) next = some (a, next)
+going_on None next = None
+going_on (Some a) next = Some (a, next)
 
 -- an empty word is malformed: a line does not begin or end with a space, nor has it two in a row
 abbrev pub not_empty : {A : Type 0} → (List ℕ → Option A) → List ℕ → Option A
-not_empty form [] = none
+not_empty form [] = None
 not_empty form (c ∷ word) = form (c ∷ word)
 
 -- the word at a place, read in its form; the text goes on behind the one space after it
@@ -39,15 +40,15 @@ frame word = below (2 ^ 32) (number word)
 
 -- the value of a float's bits: exactly their 16 hexadecimal digits, lower case; a NaN for any NaN's bits
 abbrev pub bits : List ℕ → Option Float
-bits word = cond (eqb (length word) 16) (map (of_bits binary64) (number_in 16 word)) none
+bits word = cond (eqb (length word) 16) (option_map (of_bits binary64) (number_in 16 word)) None
 
 -- a float: its bits, or any other word as a decimal. The word `nan` is written and not read.
 abbrev pub float : List ℕ → Option Float
-float word = or_else (bits word) (decimal word)
+float word = option_or (bits word) (decimal word)
 
 -- a byte: exactly its two hexadecimal digits, lower case
 abbrev pub byte : List ℕ → Option ℕ
-byte digits = cond (eqb (length digits) 2) (number_in 16 digits) none
+byte digits = cond (eqb (length digits) 2) (number_in 16 digits) None
 
 -- the byte whose digits stand at a place
 unfoldable pub byte_at : List ℕ → ℕ → Option ℕ
@@ -62,8 +63,8 @@ same (a ∷ u) (b ∷ v) = eqb a b && same u v
 
 -- this very word
 abbrev pub keyword : List ℕ → List ℕ → Option (Unit {0})
-keyword expected word = cond (same word expected) (some tt) none
+keyword expected word = cond (same word expected) (Some tt) None
 
 -- any word
 abbrev pub any_word : List ℕ → Option (List ℕ)
-any_word word = some word
+any_word word = Some word

@@ -1,7 +1,7 @@
 // A float as people write it: `1`, `-0.25`, `6.1e-3`. Its digits and its power of ten are exact floats, so that one
 // product or quotient of the two rounds the number once.
 ghost use Rattle.std.specs.Prelude.{◌≡◌, ◌^◌, ◌≤◌, ◌<◌, false, length};
-ghost use Rattle.std.proofs.Math.Option.{some};
+ghost use Rattle.std.specs.Prelude.{Some};
 ghost use Rattle.std.specs.Float.Ieee.Exact.{HasValue};
 ghost use Rattle.text.specs.Decimal.{before, behind, digits_after, significand, exponent};
 ghost use Rattle.text.specs.Decimal.{scaled as Decimal·scaled};
@@ -68,7 +68,7 @@ fn scaled(negative: bool, d: u64, up: u64, down: u64, next: usize) -> Float
 
 // One or more digits where they follow a number, with the place behind them.
 fn some_digits(word: &[u8], number: u64) -> Number
-    ensures { number_read result ≡ going_on (digits_after (some number) word.now) (length word.now) }
+    ensures { number_read result ≡ going_on (digits_after (Some number) word.now) (length word.now) }
 {
     if word.len() == 0 {
         return Number::Malformed;
@@ -94,7 +94,7 @@ fn read_significand(word: &[u8]) -> Number
 
 // What stands behind an `e`: a whole number, with `-` or without a sign.
 fn read_exponent(text: &[u8]) -> Exponent
-    ensures { exponent_read result ≡ exponent (some text.now) }
+    ensures { exponent_read result ≡ exponent (Some text.now) }
 {
     if text.len() == 0 {
         return Exponent::Malformed;

@@ -1,3 +1,4 @@
 pub mod Replies
 pub mod Seconds
 pub mod ShareWithin
+pub mod Options

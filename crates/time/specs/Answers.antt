@@ -1,6 +1,6 @@
 -- Document 01's number and values for each case of this crate's enums.
 use Rattle.std.specs.Prelude.{ℕ, Float}
-use Rattle.std.proofs.Math.Option.{Option, none, some}
+use Rattle.std.specs.Prelude.{Option, None, Some}
 use Rattle.time.specs.declared.timestamp.Elapsed.{Elapsed}
 use Rattle.time.specs.declared.timestamp.Elapsed.TheVariants as elapsed
 use Rattle.time.specs.declared.timestamp.Ratio.{Ratio}
@@ -13,6 +13,6 @@ elapsed_reply elapsed.DurationUnderflow = refusal 15 nothing
 
 -- none: both ends are one instant
 abbrev pub ratio_reply : Ratio → Reply (Option Float)
-ratio_reply (ratio.Share x) = answer (some x)
-ratio_reply ratio.ZeroSpan = answer none
+ratio_reply (ratio.Share x) = answer (Some x)
+ratio_reply ratio.ZeroSpan = answer None
 ratio_reply ratio.DurationUnderflow = refusal 15 nothing

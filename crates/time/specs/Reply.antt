@@ -1,6 +1,6 @@
 -- What a call replies, in document 01's terms: an answer, or a refusal by its number in the table of noes with the data listed there.
 use Rattle.std.specs.Prelude.{ℕ, Bool, cond, Float}
-use Rattle.std.proofs.Math.Option.{Option}
+use Rattle.std.specs.Prelude.{Option}
 
 -- what a refusal carries: nothing; the norm of 4; the parent of 6 or the frame of 9; a hop's child and its range, if any, of 11 and 12
 pub data Carried : Type 0 where

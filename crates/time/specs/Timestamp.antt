@@ -1,6 +1,6 @@
 -- Instants and their differences: nanoseconds in 64 unsigned bits.
 use Rattle.std.specs.Prelude.{ℕ, ◌-◌, ◌/◌, ◌%◌, cond, ltb, eqb, Float}
-use Rattle.std.proofs.Math.Option.{Option, none, some}
+use Rattle.std.specs.Prelude.{Option, None, Some}
 use Rattle.time.specs.Float.{◌⊕◌, ◌⊘◌, whole}
 use Rattle.time.specs.Reply.{Reply, answer, nothing, ◌then◌, refuse}
 
@@ -16,6 +16,6 @@ as_secs_f64 nanos = whole (nanos / 1000000000) ⊕ whole (nanos % 1000000000) �
 unfoldable pub share : ℕ → ℕ → ℕ → Reply (Option Float)
 share from to query =
     duration_since to from then λ span.
-    cond (eqb span 0) (answer none)
+    cond (eqb span 0) (answer None)
     (duration_since query from then λ elapsed.
-    answer (some (as_secs_f64 elapsed ⊘ as_secs_f64 span)))
+    answer (Some (as_secs_f64 elapsed ⊘ as_secs_f64 span)))

@@ -2,7 +2,7 @@
 use Prim.Native.Nat.{ℕ}
 use mathlib.Core.Path.{◌≡◌, refl, sym, ap, ◌∙◌}
 use mathlib.Core.Bool.{Bool, true, false, cond, not, ◌&&◌}
-use mathlib.Core.Option.{Option, none, some}
+use Rattle.std.specs.Prelude.{Option, None, Some}
 use mathlib.Core.List.{List, [], ◌∷◌}
 use lib.Dec.{eqb}
 use borrow.Author.Tests.{eqb-true, not-true}
@@ -41,7 +41,7 @@ carried_of : ℕ → Answer → Carried
 carried_of k a =
     cond (member k with_norm) (norm a.norm)
     (cond (member k with_frame) (frame a.frame)
-    (cond (member k with_hop) (hop a.frame (cond (eqb a.has_range 1) (some (a.start, a.end)) none))
+    (cond (member k with_hop) (hop a.frame (cond (eqb a.has_range 1) (Some (a.start, a.end)) None))
     nothing))
 
 reply_in : Form → Answer → Reply Value
@@ -67,8 +67,8 @@ back form (refusal k nothing) h =
     rw (not_in with_nothing (0 ∷ []) k refl h, not_in with_nothing with_norm k refl h, not_in with_nothing with_frame k refl h, not_in with_nothing with_hop k refl h)
 back form (refusal k (norm x)) h = rw (not_in with_norm (0 ∷ []) k refl h, h)
 back form (refusal k (frame f)) h = rw (not_in with_frame (0 ∷ []) k refl h, not_in with_frame with_norm k refl h, h)
-back form (refusal k (hop f none)) h = rw (not_in with_hop (0 ∷ []) k refl h, not_in with_hop with_norm k refl h, not_in with_hop with_frame k refl h, h)
-back form (refusal k (hop f (some r))) h = rw (not_in with_hop (0 ∷ []) k refl h, not_in with_hop with_norm k refl h, not_in with_hop with_frame k refl h, h)
+back form (refusal k (hop f None)) h = rw (not_in with_hop (0 ∷ []) k refl h, not_in with_hop with_norm k refl h, not_in with_hop with_frame k refl h, h)
+back form (refusal k (hop f (Some r))) h = rw (not_in with_hop (0 ∷ []) k refl h, not_in with_hop with_norm k refl h, not_in with_hop with_frame k refl h, h)
 
 pub flat_fixes : FlatFixes
 flat_fixes form r q h g e = sym (back form r h) ∙ ap (reply_in form) e ∙ back form q g
@@ -87,9 +87,9 @@ flat_pose_fixes r q h g e = posed_injective r q (flat_fixes of_pose (posed r) (p
 -- ---- loads
 
 record_in : Answer → Option ℕ
-record_in a = cond (eqb a.is_record 1) (some a.index) none
+record_in a = cond (eqb a.is_record 1) (Some a.index) None
 
-no_record : (r : Reply Value) → record_in (flat r) ≡ none
+no_record : (r : Reply Value) → record_in (flat r) ≡ None
 unfolding record_in
 no_record (answer done) = refl
 no_record (answer (pose p)) = refl
@@ -98,18 +98,18 @@ no_record (answer (at i)) = refl
 no_record (refusal k nothing) = refl
 no_record (refusal k (norm x)) = refl
 no_record (refusal k (frame f)) = refl
-no_record (refusal k (hop f none)) = refl
-no_record (refusal k (hop f (some r))) = refl
+no_record (refusal k (hop f None)) = refl
+no_record (refusal k (hop f (Some r))) = refl
 
 record_back : (m : Option ℕ) (r : Reply Value) → record_in (flat_load m r) ≡ m
 unfolding record_in
-record_back none r = no_record r
-record_back (some n) r = refl
+record_back None r = no_record r
+record_back (Some n) r = refl
 
 load_back : (m : Option ℕ) (r : Reply Value) → fits of_done r ≡ true → reply_in of_done (flat_load m r) ≡ r
 unfolding reply_in value_of carried_of
-load_back none r h = back of_done r h
-load_back (some n) r h = back of_done r h
+load_back None r h = back of_done r h
+load_back (Some n) r h = back of_done r h
 
 pub flat_load_fixes : FlatLoadFixes
 flat_load_fixes m n r q h g e = (

@@ -1,6 +1,6 @@
 -- What C is told of a reply: one struct, in which a field that is not carried is 0.
 use Rattle.std.specs.Prelude.{ℕ, List, Float}
-use Rattle.std.proofs.Math.Option.{Option, none, some}
+use Rattle.std.specs.Prelude.{Option, None, Some}
 use Rattle.time.specs.Float.{zero64}
 use Rattle.time.specs.Reply.{Reply, answer, refusal, nothing, norm, frame, hop, ◌then◌}
 use Rattle.geometry.specs.declared.isometry.Isometry.{Isometry}
@@ -38,8 +38,8 @@ framed k f = record { number = k; frame = f; has_range = 0; is_static = 0; is_re
 
 -- a hop's child, and its range if there is one
 abbrev pub ranged : ℕ → ℕ → Option (ℕ × ℕ) → Answer
-ranged k f none = framed k f
-ranged k f (some r) = record { number = k; frame = f; has_range = 1; is_static = 0; is_record = 0; reserved = 0; start = r.0; end = r.1; norm = zero64; instant = 0; index = 0; pose = no_pose }
+ranged k f None = framed k f
+ranged k f (Some r) = record { number = k; frame = f; has_range = 1; is_static = 0; is_record = 0; reserved = 0; start = r.0; end = r.1; norm = zero64; instant = 0; index = 0; pose = no_pose }
 
 abbrev pub flat : Reply Value → Answer
 flat (answer done) = plain 0
@@ -74,8 +74,8 @@ of_record n a = record {
 
 -- of a load
 abbrev pub flat_load : Option ℕ → Reply Value → Answer
-flat_load none r = flat r
-flat_load (some n) r = of_record n (flat r)
+flat_load None r = flat r
+flat_load (Some n) r = of_record n (flat r)
 
 -- the struct, and every word of the three slices afterwards
 pub record Returned : Type 0 where
@@ -95,12 +95,12 @@ flat_loading l = record { result = flat_load l.record? l.reply; store = l.store 
 
 -- 18, none, or the number
 abbrev pub flat_frame : Reply (Option ℕ) → FrameAnswer
-flat_frame (answer (some k)) = record { number = 0; is_known = 1; frame = k }
-flat_frame (answer none) = record { number = 0; is_known = 0; frame = 0 }
+flat_frame (answer (Some k)) = record { number = 0; is_known = 1; frame = k }
+flat_frame (answer None) = record { number = 0; is_known = 0; frame = 0 }
 flat_frame (refusal k c) = record { number = k; is_known = 0; frame = 0 }
 
 -- 18, none, or where in the file the name stands
 abbrev pub flat_name : Reply (Option (ℕ × ℕ)) → NameAnswer
-flat_name (answer (some part)) = record { number = 0; is_known = 1; start = part.0; count = part.1 }
-flat_name (answer none) = record { number = 0; is_known = 0; start = 0; count = 0 }
+flat_name (answer (Some part)) = record { number = 0; is_known = 1; start = part.0; count = part.1 }
+flat_name (answer None) = record { number = 0; is_known = 0; start = 0; count = 0 }
 flat_name (refusal k c) = record { number = k; is_known = 0; start = 0; count = 0 }

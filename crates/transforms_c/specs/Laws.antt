@@ -1,6 +1,6 @@
 -- What holds of the lengths and of the struct. Proved in proofs/ under the same names.
 use Rattle.std.specs.Prelude.{ℕ, ◌≡◌, true, ◌&&◌, length}
-use Rattle.std.proofs.Math.Option.{Option}
+use Rattle.std.specs.Prelude.{Option}
 use Rattle.time.specs.Reply.{Reply}
 use Rattle.geometry.specs.declared.isometry.Isometry.{Isometry}
 use Rattle.registry.specs.Store.{Store, sizes_fit}

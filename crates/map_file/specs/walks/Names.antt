@@ -1,6 +1,6 @@
 -- A walk along the names of a file, as the contracts of the private functions cite it. No public contract rests on this.
 use Rattle.std.specs.Prelude.{ℕ, suc, ◌+◌, ◌≡◌, Bool, true, false, cond, List, [], ◌∷◌, ◌++◌, length, drop}
-use Rattle.std.proofs.Math.Option.{Option, none, some}
+use Rattle.std.specs.Prelude.{Option, None, Some}
 use Rattle.buffer.specs.Map.{all}
 use Rattle.buffer.specs.Row.{concat_map}
 use Rattle.map_file.specs.Form.{Name, Record, number_bytes, name_bytes, record_bytes, file_bytes, record_fits, FileFits, records}
@@ -10,21 +10,21 @@ use Rattle.map_file.specs.Book.{appearances, places}
 -- the file has the form: it is read as these records, and it is their bytes
 pub record Formed (bytes : List ℕ) : Type 0 where
   pub read : List Record
-  pub form : records bytes ≡ some read
+  pub form : records bytes ≡ Some read
   pub is : bytes ≡ file_bytes read
   pub fits : FileFits read
 
 abbrev pub names_of : Option (List Record) → List Name
-names_of none = []
-names_of (some rs) = appearances rs
+names_of None = []
+names_of (Some rs) = appearances rs
 
 -- the names in the order of the file
 unfoldable pub names_in : List ℕ → List Name
 names_in bytes = names_of (records bytes)
 
 abbrev pub places_of : Option (List Record) → List ℕ
-places_of none = []
-places_of (some rs) = places 7 rs
+places_of None = []
+places_of (Some rs) = places 7 rs
 
 -- where they stand
 unfoldable pub places_in : List ℕ → List ℕ

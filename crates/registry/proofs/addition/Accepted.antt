@@ -2,7 +2,7 @@
 use Prim.Native.Nat.{ℕ, ◌≤◌}
 use mathlib.Core.Path.{◌≡◌, refl, sym, ap}
 use mathlib.Core.Bool.{Bool, true, false, not, ◌&&◌}
-use mathlib.Core.Option.{Option, none, some}
+use Rattle.std.specs.Prelude.{Option, None, Some}
 use native.Mathlib.Omega.{arith}
 use lib.ListN.{length}
 use lib.Dec.{eqb, leb, ltb}
@@ -23,8 +23,8 @@ use Rattle.registry.proofs.layout.StoreBack.{Fits}
 
 -- the addition's parent and kind are those that the child is held with
 abbrev pub Suits : Option Edge → Addition → Type 0
-Suits none a = Unit {0}
-Suits (some e) a = (e.parent ≡ a.parent) × (e.kind ≡ kind_of a.stamp)
+Suits None a = Unit {0}
+Suits (Some e) a = (e.parent ≡ a.parent) × (e.kind ≡ kind_of a.stamp)
 
 not_false : (b : Bool) → not b ≡ false → b ≡ true
 not_false true e = refl
@@ -37,8 +37,8 @@ same_kind_lem Dynamic Static e = absurd (false_true e)
 same_kind_lem Dynamic Dynamic e = refl
 
 suits : (a : Addition) (held : Option Edge) → other_parent held a.parent ≡ false → other_kind held (kind_of a.stamp) ≡ false → Suits held a
-suits a none p k = tt
-suits a (some e) p k = (
+suits a None p k = tt
+suits a (Some e) p k = (
   eqb-true e.parent a.parent (not_false (eqb e.parent a.parent) p),
   same_kind_lem e.kind (kind_of a.stamp) (not_false (same_kind e.kind (kind_of a.stamp)) k),
 )
@@ -81,8 +81,8 @@ add_accepted L t a u e = accepted_by L t a (get t a.child) u e
 
 accepted_rows : (L : Limits) (t : Tree) (c : ℕ) (e : Edge) (held : Option Edge) → get t c ≡ held → Rising t → length t ≤ L.rows
     → (is_absent held && leb L.rows (length t)) ≡ false → length (put c e t) ≤ L.rows
-accepted_rows L t c e none h r f room = let l = leb-false L.rows (length t) room in omega (arith, length_put_new c e t h)
-accepted_rows L t c e (some d) h r f room = omega (arith, length_put_held c e d t r h)
+accepted_rows L t c e None h r f room = let l = leb-false L.rows (length t) room in omega (arith, length_put_new c e t h)
+accepted_rows L t c e (Some d) h r f room = omega (arith, length_put_held c e d t r h)
 
 pub accepted_fits : (L : Limits) (t : Tree) (a : Addition) (u : Tree) → Rising t → Fits L t → Accepted L t a (get t a.child) u → Fits L u
 accepted_fits L t a u r f acc = rw acc.left (record { rows = rows; samples = samples })

@@ -2,7 +2,7 @@
 use Prim.Native.Nat.{ℕ, ◌≤◌, ◌<◌}
 use mathlib.Core.Path.{◌≡◌, sym, ap, ◌∙◌}
 use mathlib.Core.Bool.{Bool, false}
-use mathlib.Core.Option.{Option, none, some}
+use Rattle.std.specs.Prelude.{Option, None, Some}
 use mathlib.Core.List.{[]}
 use lib.Dec.{ltb}
 use lib.ListN.{length}
@@ -57,11 +57,11 @@ module _ (s : Store) (ok : SoundStore s) (child parent : ℕ) (stamp : Stamp) (p
   abbrev a : Addition
   a = addition child parent stamp p
 
-  pub held_get : (r : ℕ) → IsRow s.head child r → get (tree_of s) child ≡ some (edge_at s r)
+  pub held_get : (r : ℕ) → IsRow s.head child r → get (tree_of s) child ≡ Some (edge_at s r)
   held_get r found = get_found s (sound_rows s ok).rises child r found
 
   pub held_written : (r : ℕ) (found : IsRow s.head child r) (i : ℕ) → i ≡ instant_of stamp
-      → answer done ≡ admits (limits_of s) (tree_of s) a (some (edge_at s r)) (answer done)
+      → answer done ≡ admits (limits_of s) (tree_of s) a (Some (edge_at s r)) (answer done)
       → written s (limits_of s) (put_into s r i p) ≡ written s (limits_of s) (add (limits_of s) (tree_of s) a)
   unfolding put_into
   held_written r found i e d =
@@ -70,11 +70,11 @@ module _ (s : Store) (ok : SoundStore s) (child parent : ℕ) (stamp : Stamp) (p
       ap (written s L)
       ((λ j. refuse (ltb L.capacity (length (insert L.age (e j) p x.samples))) 17 nothing
       (answer (put (found.child j) (record { parent = x.parent; kind = x.kind; samples = insert L.age (e j) p x.samples }) (tree_of s))))
-      ∙ sym (add_after L (tree_of s) a (some x) (held_get r found) d))
+      ∙ sym (add_after L (tree_of s) a (Some x) (held_get r found) d))
 
   -- ---- a new child
 
-  pub absent_get : (k : ℕ) → AbsentAt s.head child k → get (tree_of s) child ≡ none
+  pub absent_get : (k : ℕ) → AbsentAt s.head child k → get (tree_of s) child ≡ None
   absent_get k absent = get_absent s child k absent
 
 -- its first sample: a row is never full with one
@@ -90,7 +90,7 @@ module _ (s : Store) (ok : SoundStore s) (fit : FloatsFit s.poses) (k child pare
   first = addition child parent stamp p
 
   abbrev first_edge : Edge
-  first_edge = updated_edge (limits_of s).age first none
+  first_edge = updated_edge (limits_of s).age first None
 
   one : ltb (limits_of s).capacity (length first_edge.samples) ≡ false
   unfolding limits_of
@@ -117,13 +117,13 @@ module _ (s : Store) (ok : SoundStore s) (fit : FloatsFit s.poses) (k child pare
       (λ j. into (empty_row_lem s ok fit k child parent kind absent room j) (empty_limits s ok fit k child parent kind absent room j) (empty_tree s ok fit k child parent kind absent room j))
       ∙ into_first
 
-  pub new_written : answer done ≡ admits (limits_of s) (tree_of s) first none (answer done)
+  pub new_written : answer done ≡ admits (limits_of s) (tree_of s) first None (answer done)
       → (let u = with_row k (empty_row child parent kind) s in written u (limits_of u) (put_into u k i p) ≡ written s (limits_of s) (add (limits_of s) (tree_of s) first))
   new_written d =
       let u = stored (limits_of s) tree in
       let words = row_stored s ok fit k child parent kind absent room in
       let right : add (limits_of s) (tree_of s) first ≡ answer (put child first_edge (tree_of s)) =
-      add_after (limits_of s) (tree_of s) first none (get_absent s child k absent) d
+      add_after (limits_of s) (tree_of s) first None (get_absent s child k absent) d
       ∙ ap {B = Reply Tree} (λ (b : Bool). refuse b 17 nothing (answer (put child first_edge (tree_of s)))) one
       in
       (λ j. written (words j) (limits_of (words j)) (put_into (words j) k i p))

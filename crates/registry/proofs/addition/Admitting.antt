@@ -2,7 +2,7 @@
 use Prim.Native.Nat.{ℕ, ◌<◌}
 use mathlib.Core.Path.{◌≡◌, refl, sym, ap, ◌∙◌}
 use mathlib.Core.Bool.{Bool, true, false, not, ◌&&◌}
-use mathlib.Core.Option.{Option, none, some}
+use Rattle.std.specs.Prelude.{Option, None, Some}
 use native.Mathlib.Omega.{arith}
 use lib.Dec.{eqb, leb}
 use lib.Ieee.{Float, lt}
@@ -125,7 +125,7 @@ module _ (L : Limits) (t : Tree) (child parent : ℕ) (stamp : Stamp) (p : Isome
   -- of a child that is held
   module _ (e : Edge) where
     abbrev held : Reply Value
-    held = admits L t a (some e) (answer done)
+    held = admits L t a (Some e) (answer done)
 
     abbrev after_pose : Reply Value
     after_pose = refuse (not (eqb e.parent parent)) 6 (frame e.parent) (refuse (not (same_kind e.kind (kind_of stamp))) 8 nothing (answer done))
@@ -148,7 +148,7 @@ module _ (L : Limits) (t : Tree) (child parent : ℕ) (stamp : Stamp) (p : Isome
 
   -- of a new child
   abbrev new : Reply Value
-  new = admits L t a none (answer done)
+  new = admits L t a None (answer done)
 
   pub new_circle : member child (ancestors t parent) ≡ true → refusal 7 nothing ≡ new
   unfolding admits
@@ -183,7 +183,7 @@ room_cases false (answer q) false true e = absurd (refusal_answer (sym e))
 room_cases false (answer q) false false e = refl
 
 -- a new child that is admitted has room
-pub admits_room : (s : Store) (a : Addition) → answer done ≡ admits (limits_of s) (tree_of s) a none (answer done) → used_in s < rows_in s
+pub admits_room : (s : Store) (a : Addition) → answer done ≡ admits (limits_of s) (tree_of s) a None (answer done) → used_in s < rows_in s
 unfolding admits limits_of
 admits_room s a e =
     let q : leb (rows_in s) (length (tree_of s)) ≡ false = room_cases (member a.child (ancestors (tree_of s) a.parent)) (validate a.pose) (eqb a.parent a.child) _ e in

@@ -1,7 +1,7 @@
 -- Narrowing hop by hop gives the latest common time of the hops, and of two frames from where the climbs from them end.
 use Prim.Native.Nat.{ℕ}
 use mathlib.Core.Path.{◌≡◌, refl, sym, ap, ◌∙◌}
-use mathlib.Core.Option.{none, some}
+use Rattle.std.specs.Prelude.{None, Some}
 use mathlib.Core.List.{List, [], ◌∷◌, ◌++◌}
 use borrow.Author.Tests.{eq-eqb, ne_eqb}
 use Rattle.time.specs.Reply.{Reply, answer, refusal, nothing, ◌then◌}
@@ -23,11 +23,11 @@ abbrev narrow_all : CommonSpan → List Span → CommonSpan
 narrow_all c [] = c
 narrow_all c (x ∷ xs) = narrow_all (narrow c x) xs
 
-narrow_all_lem : (xs : List Span) (end : ℕ) (late : Span) → narrow_all (some (end, late)) xs ≡ some (earliest_end end xs, latest_start late xs)
+narrow_all_lem : (xs : List Span) (end : ℕ) (late : Span) → narrow_all (Some (end, late)) xs ≡ Some (earliest_end end xs, latest_start late xs)
 narrow_all_lem [] end late = refl
 narrow_all_lem (x ∷ xs) end late = narrow_all_lem xs _ _
 
-agreed_meet : (xs : List Span) → agreed (narrow_all none xs) ≡ meet xs
+agreed_meet : (xs : List Span) → agreed (narrow_all None xs) ≡ meet xs
 agreed_meet [] = refl
 agreed_meet (x ∷ xs) = rw (narrow_all_lem xs x.end x)
 
@@ -43,10 +43,10 @@ narrowed_spans (h ∷ hs) c = by (coverage h.1.kind h.1.samples) (spans hs) (nar
     by Empty r ih = refl
 
 -- so the hops agree on what their ranges meet in
-hops_agree : (hs : List Hop) → (narrowed none hs then agreed) ≡ (spans hs then meet)
-hops_agree hs = ap (λ (r : Reply CommonSpan). r then agreed) (narrowed_spans hs none) ∙ go (spans hs)
+hops_agree : (hs : List Hop) → (narrowed None hs then agreed) ≡ (spans hs then meet)
+hops_agree hs = ap (λ (r : Reply CommonSpan). r then agreed) (narrowed_spans hs None) ∙ go (spans hs)
   where
-    go : (r : Reply (List Span)) → ((r then λ xs. answer (narrow_all none xs)) then agreed) ≡ (r then meet)
+    go : (r : Reply (List Span)) → ((r then λ xs. answer (narrow_all None xs)) then agreed) ≡ (r then meet)
     go (answer xs) = agreed_meet xs
     go (refusal k d) = refl
 
@@ -60,8 +60,8 @@ narrowed_append (h ∷ a) b c = go (narrow_by c h.0 (coverage h.1.kind h.1.sampl
     go (refusal k x) ih = refl
 
 -- the hops of two sides agree, one side after the other
-sides_agree : (a b : List Hop) → (narrowed none a then λ c. narrowed c b then agreed) ≡ (spans (a ++ b) then meet)
-sides_agree a b = assoc (narrowed none a) ∙ ap (λ (r : Reply CommonSpan). r then agreed) (sym (narrowed_append a b none)) ∙ hops_agree (a ++ b)
+sides_agree : (a b : List Hop) → (narrowed None a then λ c. narrowed c b then agreed) ≡ (spans (a ++ b) then meet)
+sides_agree a b = assoc (narrowed None a) ∙ ap (λ (r : Reply CommonSpan). r then agreed) (sym (narrowed_append a b None)) ∙ hops_agree (a ++ b)
   where
     assoc : (r : Reply CommonSpan) → (r then λ c. narrowed c b then agreed) ≡ ((r then λ c. narrowed c b) then agreed)
     assoc (answer c) = refl
@@ -77,7 +77,7 @@ module _ (t : Tree) (gr : Grounded t) (f g x y : ℕ) (ends : EndAt t f g x y) w
   common_apart ne = sym (ask_ends (λ a b. spans (a ++ b) then meet) (λ a b. refusal 10 nothing) t f g gr x y ends ∙ rw (ne_eqb x y ne))
 
   -- the target's side narrows to a, and then the source's
-  pub common_meets : x ≡ y → (a : Reply CommonSpan) → a ≡ narrowed none (hops_to t f x) → (a then λ c. narrowed c (hops_to t g y) then agreed) ≡ common_known t f g
+  pub common_meets : x ≡ y → (a : Reply CommonSpan) → a ≡ narrowed None (hops_to t f x) → (a then λ c. narrowed c (hops_to t g y) then agreed) ≡ common_known t f g
   common_meets e a p =
       rw p
       (sides_agree (hops_to t f x) (hops_to t g y)

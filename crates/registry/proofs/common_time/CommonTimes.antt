@@ -3,7 +3,7 @@ use Prim.Native.Nat.{ℕ, suc, ◌≤◌, ◌<◌}
 use mathlib.Core.Path.{◌≡◌, refl, sym, ap, subst, subst⁻¹, ◌∙◌}
 use mathlib.Core.Logic.{◌↔◌}
 use mathlib.Core.Bool.{true, false}
-use mathlib.Core.Option.{Option, none, some}
+use Rattle.std.specs.Prelude.{Option, None, Some}
 use mathlib.Core.List.{List, [], ◌∷◌, ◌++◌}
 use native.Mathlib.Omega.{arith}
 use lib.Dec.{eqb}
@@ -35,12 +35,12 @@ static_cover Static m = (λ e. refl, λ e. refl)
 static_cover Dynamic [] = (λ e. cc, λ e. cc)
 static_cover Dynamic (x ∷ m) = (λ e. cc, λ e. cc)
 
-range_cover : (k : Kind) (m : Samples) (s e : ℕ) → coverage k m ≡ Range s e → range m ≡ some (s, e)
+range_cover : (k : Kind) (m : Samples) (s e : ℕ) → coverage k m ≡ Range s e → range m ≡ Some (s, e)
 range_cover Static m s e q = cc
 range_cover Dynamic [] s e q = cc
 range_cover Dynamic (x ∷ m) s e q = cc
 
-empty_cover : (k : Kind) (m : Samples) → coverage k m ≡ Empty → range m ≡ none
+empty_cover : (k : Kind) (m : Samples) → coverage k m ≡ Empty → range m ≡ None
 empty_cover Static m q = cc
 empty_cover Dynamic [] q = refl
 empty_cover Dynamic (x ∷ m) q = cc
@@ -111,7 +111,7 @@ module _ (P Q : ℕ → ℕ → Type 0) (s : Span) (after : List Span) (later : 
 
 data Ranges (hs : List Hop) (r : Reply (List Span)) : Type 0 where
   whole : (xs : List Span) → r ≡ answer xs → Spanned hs xs → Ranges hs r
-  blank : (h : Hop) → r ≡ refusal 12 (hop h.0 none) → cover h ≡ Empty
+  blank : (h : Hop) → r ≡ refusal 12 (hop h.0 None) → cover h ≡ Empty
       → Placed (λ x. Ranged (λ s e. Unit {0}) (cover x)) h (λ x. Unit {0}) hs → Ranges hs r
 
 ranges : (hs : List Hop) → Ranges hs (spans hs)

@@ -1,7 +1,7 @@
 -- What the hops of a path have in common, narrowed while climbing: what is left of the climb decides.
 use Prim.Native.Nat.{ℕ}
 use mathlib.Core.Path.{◌≡◌, sym, ap, subst, ◌∙◌}
-use mathlib.Core.Option.{Option, none, some, map}
+use Rattle.std.specs.Prelude.{Option, None, Some, option_map}
 use mathlib.Core.List.{[]}
 use Rattle.time.specs.Reply.{Reply, answer, ◌then◌}
 use Rattle.buffer.specs.declared.coverage.Coverage.{Coverage}
@@ -15,17 +15,17 @@ use Rattle.registry.specs.common_time.Spans.{CommonSpan, narrow_by, narrowed}
 use Rattle.registry.proofs.paths.Climbing.{edge_or, Grounded}
 use Rattle.registry.proofs.paths.SideHops.{ChildOf, hops_end, hops_up, hops_root}
 
-pub coverage_parent : (t : Tree) (f : ℕ) (c : Coverage) (p : ℕ) → some (c, p) ≡ edge_coverage t f → ChildOf t f p
+pub coverage_parent : (t : Tree) (f : ℕ) (c : Coverage) (p : ℕ) → Some (c, p) ≡ edge_coverage t f → ChildOf t f p
 coverage_parent t f c p e =
     edge_or (get t f)
-    (λ q. absurd (none_some {a = p} (sym (ap (map (λ x. x.1)) e ∙ rw q))))
-    (λ d q. (d, q, (let z : some p ≡ some d.parent = ap (map (λ x. x.1)) e ∙ rw q in cc)))
+    (λ q. absurd (none_some {a = p} (sym (ap (option_map (λ x. x.1)) e ∙ rw q))))
+    (λ d q. (d, q, (let z : Some p ≡ Some d.parent = ap (option_map (λ x. x.1)) e ∙ rw q in cc)))
 
 -- ---- the hops from a frame, by its coverage
 
 abbrev pub narrow_on : Tree → (f top : ℕ) → CommonSpan → Option (Coverage × ℕ) → Reply CommonSpan
-narrow_on t f top d none = answer d
-narrow_on t f top d (some x) = narrow_by d f x.0 then λ e. narrowed e (hops_to t x.1 top)
+narrow_on t f top d None = answer d
+narrow_on t f top d (Some x) = narrow_by d f x.0 then λ e. narrowed e (hops_to t x.1 top)
 
 narrowed_by : (t : Tree) → Grounded t → (f top : ℕ) (d : CommonSpan) → (f ≡ top → ⊥) → narrowed d (hops_to t f top) ≡ narrow_on t f top d (edge_coverage t f)
 narrowed_by t gr f top d ne =

@@ -2,7 +2,7 @@
 use Prim.Native.Nat.{ℕ, min, ◌≤◌, ◌<◌}
 use mathlib.Core.Path.{◌≡◌, refl, ap, subst, subst⁻¹}
 use mathlib.Core.Bool.{Bool, true, false, cond}
-use mathlib.Core.Option.{some}
+use Rattle.std.specs.Prelude.{Some}
 use mathlib.Core.List.{List, [], ◌∷◌, ◌++◌}
 use native.Mathlib.Omega.{arith}
 use lib.Dec.{ltb}
@@ -122,7 +122,7 @@ Between i start end = (start ≤ i) × (i ≤ end)
 pub data Met (xs : List Span) (r : Reply Value) : Type 0 where
   still : r ≡ answer static → xs ≡ [] → Met xs r
   meets : (i : ℕ) → r ≡ answer (at i) → EverySpan (Between i) xs → ((j : ℕ) → EverySpan (Between j) xs → j ≤ i) → Met xs r
-  apart : (s : Span) → r ≡ refusal 12 (hop s.child (some (s.start, s.end))) → ((i : ℕ) → EverySpan (Between i) xs → ⊥) → Latest s xs → Met xs r
+  apart : (s : Span) → r ≡ refusal 12 (hop s.child (Some (s.start, s.end))) → ((i : ℕ) → EverySpan (Between i) xs → ⊥) → Latest s xs → Met xs r
 
 pub met : (xs : List Span) → Met xs (meet xs)
 met [] = still refl refl

@@ -4,7 +4,7 @@ use Prim.Native.Nat.{ℕ}
 use mathlib.Core.Path.{◌≡◌, refl, sym, ap, ◌∙◌}
 use mathlib.Core.Logic.{◌↔◌}
 use mathlib.Core.Bool.{Bool, true, false, not}
-use mathlib.Core.Option.{Option, none, some, map}
+use Rattle.std.specs.Prelude.{Option, None, Some, option_map}
 use mathlib.Core.List.{List, [], ◌∷◌, ◌++◌}
 use native.Mathlib.Omega.{arith}
 use lib.Dec.{eqb}
@@ -99,34 +99,34 @@ stands L s o xs = run_ind add_of (Stands L) (add_stands L) add_refused s [] xs (
 record SameHeld (h k : Option Edge) : Type 0 where
   parents : parent_in h ≡ parent_in k
   kinds : kind_in h ≡ kind_in k
-  samples : (i : ℕ) → map pose_bits (sample_in h i) ≡ map pose_bits (sample_in k i)
+  samples : (i : ℕ) → option_map pose_bits (sample_in h i) ≡ option_map pose_bits (sample_in k i)
 
-same_held : (h k : Option Edge) → map edge_bits h ≡ map edge_bits k → SameHeld h k
-same_held none none e = record { parents = refl; kinds = refl; samples = λ i. refl }
-same_held none (some d) e = absurd (none_some e)
-same_held (some c) none e = absurd (none_some (sym e))
-same_held (some c) (some d) e =
+same_held : (h k : Option Edge) → option_map edge_bits h ≡ option_map edge_bits k → SameHeld h k
+same_held None None e = record { parents = refl; kinds = refl; samples = λ i. refl }
+same_held None (Some d) e = absurd (none_some e)
+same_held (Some c) None e = absurd (none_some (sym e))
+same_held (Some c) (Some d) e =
     let q : edge_bits c ≡ edge_bits d = cc e in
     record {
-      parents = ap (λ (b : EdgeBits). some b.parent) q;
-      kinds = ap (λ (b : EdgeBits). some b.kind) q;
+      parents = ap (λ (b : EdgeBits). Some b.parent) q;
+      kinds = ap (λ (b : EdgeBits). Some b.kind) q;
       samples = λ i.
           sym (get_map_values pose_bits c.samples i)
           ∙ ap (λ (b : EdgeBits). get b.samples i) q
           ∙ get_map_values pose_bits d.samples i;
     }
 
-held_same : (h k : Option Edge) → RisingIn h → RisingIn k → SameHeld h k → map edge_bits h ≡ map edge_bits k
-held_same none none rh rk s = refl
-held_same none (some d) rh rk s = absurd (none_some s.parents)
-held_same (some c) none rh rk s = absurd (none_some (sym s.parents))
-held_same (some c) (some d) rh rk s =
+held_same : (h k : Option Edge) → RisingIn h → RisingIn k → SameHeld h k → option_map edge_bits h ≡ option_map edge_bits k
+held_same None None rh rk s = refl
+held_same None (Some d) rh rk s = absurd (none_some s.parents)
+held_same (Some c) None rh rk s = absurd (none_some (sym s.parents))
+held_same (Some c) (Some d) rh rk s =
     let parents : c.parent ≡ d.parent = cc s.parents in
     let kinds : c.kind ≡ d.kind = cc s.kinds in
     let samples : map_values pose_bits c.samples ≡ map_values pose_bits d.samples =
     ext _ _ (rising_map_values pose_bits c.samples rh) (rising_map_values pose_bits d.samples rk)
     (λ i. get_map_values pose_bits c.samples i ∙ s.samples i ∙ sym (get_map_values pose_bits d.samples i)) in
-    λ i. some (record { parent = parents i; kind = kinds i; samples = samples i })
+    λ i. Some (record { parent = parents i; kind = kinds i; samples = samples i })
 
 -- ---- the demand, of two trees and what is accepted
 
@@ -144,7 +144,7 @@ module _ (age : Option ℕ) (t u : Tree) (xs ys : List Addition) (ht : Holds age
         parents = (first f).parents ∙ same.parents ∙ sym (second f).parents;
         kinds = (first f).kinds ∙ same.kinds ∙ sym (second f).kinds;
         survivors = λ i.
-            ap (map pose_bits) ((first f).survivors i) ∙ same.samples i ∙ sym (ap (map pose_bits) ((second f).survivors i));
+            ap (option_map pose_bits) ((first f).survivors i) ∙ same.samples i ∙ sym (ap (option_map pose_bits) ((second f).survivors i));
       }
 
   same_trees : ((f : ℕ) → SameFrame age f xs ys) → tree_bits t ≡ tree_bits u
@@ -160,7 +160,7 @@ module _ (age : Option ℕ) (t u : Tree) (xs ys : List Addition) (ht : Holds age
         parents = sym (first f).parents ∙ (s f).parents ∙ (second f).parents;
         kinds = sym (first f).kinds ∙ (s f).kinds ∙ (second f).kinds;
         samples = λ i.
-            sym (ap (map pose_bits) ((first f).survivors i)) ∙ (s f).survivors i ∙ ap (map pose_bits) ((second f).survivors i);
+            sym (ap (option_map pose_bits) ((first f).survivors i)) ∙ (s f).survivors i ∙ ap (option_map pose_bits) ((second f).survivors i);
       }
 
 -- ---- the demand

@@ -3,8 +3,8 @@ use Prim.Native.Nat.{ℕ, ◌-◌, max}
 use mathlib.Core.Path.{◌≡◌, refl, sym, ap, ◌∙◌}
 use mathlib.Core.Bool.{Bool, cond}
 use mathlib.Core.Option
-use mathlib.Core.Option.{Option, none, some}
-use mathlib.Core.List.{List, [], ◌∷◌, ◌++◌, head?, map}
+use Rattle.std.specs.Prelude.{Option, None, Some}
+use mathlib.Core.List.{List, [], ◌∷◌, ◌++◌, map}
 use native.Mathlib.Omega.{arith}
 use lib.Dec.{eqb, ltb}
 use borrow.Author.Tests.{le-leb, ltb-true, eq-eqb, ne_eqb, eqb-true, eqb-false}
@@ -14,7 +14,7 @@ use Rattle.geometry.specs.declared.isometry.Isometry.{Isometry}
 use Rattle.buffer.specs.declared.kind.Kind.{Kind}
 use Rattle.buffer.specs.declared.kind.Kind.TheVariants.{Static, Dynamic}
 use Rattle.buffer.specs.Map.{get}
-use Rattle.buffer.specs.Samples.{Samples, newest, survives, insert, last?}
+use Rattle.buffer.specs.Samples.{Samples, newest, survives, insert, last?, first?}
 use Rattle.buffer.proofs.Cases.{both, none_some}
 use Rattle.buffer.proofs.Maps.{Rising}
 use Rattle.buffer.proofs.SampleLaws.{survives_zero, survives_down, newest_insert_lem, get_insert_lem, rising_insert}
@@ -32,7 +32,7 @@ module _ {A : Type 0} where
       (λ e. rw e (ap {B = List A} (λ r. x ∷ r) (select_snoc test xs a) ∙ both (test a) (λ q. rw q) (λ q. rw q)))
       (λ e. rw e (select_snoc test xs a))
 
-  last_snoc : (xs : List A) (a : A) → last? (xs ++ (a ∷ [])) ≡ some a
+  last_snoc : (xs : List A) (a : A) → last? (xs ++ (a ∷ [])) ≡ Some a
   last_snoc [] a = refl
   last_snoc (x ∷ []) a = refl
   last_snoc (x ∷ y ∷ xs) a = last_snoc (y ∷ xs) a
@@ -41,21 +41,21 @@ module _ {A : Type 0} where
   greatest_snoc f [] a = refl
   greatest_snoc f (x ∷ xs) a = let ih = greatest_snoc f xs a in omega arith
 
-  head_snoc : {B : Type 0} (g : A → B) (xs : List A) (a : A) (v : B) → Option.map g (head? xs) ≡ some v → Option.map g (head? (xs ++ (a ∷ []))) ≡ some v
+  head_snoc : {B : Type 0} (g : A → B) (xs : List A) (a : A) (v : B) → option_map g (first? xs) ≡ Some v → option_map g (first? (xs ++ (a ∷ []))) ≡ Some v
   head_snoc g [] a v e = absurd (none_some e)
   head_snoc g (x ∷ xs) a v e = e
 
 -- ---- what is left of a frame's own additions; a static addition counts at instant 0, so that this is for either kind
 
 abbrev pub left : Option ℕ → List Addition → ℕ → Option Isometry
-left age xs i = cond (survives age (newest_instant xs) i) (last_pose (at_instant i xs)) none
+left age xs i = cond (survives age (newest_instant xs) i) (last_pose (at_instant i xs)) None
 
 last_pose_snoc : (i : ℕ) (xs : List Addition) (a : Addition)
-    → last_pose (at_instant i (xs ++ (a ∷ []))) ≡ cond (eqb (instant_of a.stamp) i) (some a.pose) (last_pose (at_instant i xs))
+    → last_pose (at_instant i (xs ++ (a ∷ []))) ≡ cond (eqb (instant_of a.stamp) i) (Some a.pose) (last_pose (at_instant i xs))
 last_pose_snoc i xs a =
     rw select_snoc
     (both (eqb (instant_of a.stamp) i)
-    (λ e. rw e (ap (Option.map (λ (x : Addition). x.pose)) (last_snoc (at_instant i xs) a)))
+    (λ e. rw e (ap (option_map (λ (x : Addition). x.pose)) (last_snoc (at_instant i xs) a)))
     (λ e. rw e))
 
 -- the law of one addition: put in, then expired, is one more at the end of the history
@@ -83,24 +83,24 @@ alike_snoc k (x ∷ xs) a h e = (h.0, alike_snoc k xs a h.1 e)
 pub record EdgeIs (age : Option ℕ) (xs : List Addition) (e : Edge) : Type 0 where
   pub samples_are : (i : ℕ) → get e.samples i ≡ left age xs i
   pub newest_is : newest e.samples ≡ newest_instant xs
-  pub parent_is : Option.map (λ (a : Addition). a.parent) (head? xs) ≡ some e.parent
-  pub kind_is : Option.map (λ (a : Addition). kind_of a.stamp) (head? xs) ≡ some e.kind
+  pub parent_is : option_map (λ (a : Addition). a.parent) (first? xs) ≡ Some e.parent
+  pub kind_is : option_map (λ (a : Addition). kind_of a.stamp) (first? xs) ≡ Some e.kind
   pub alike : Alike e.kind xs
   pub rising : Rising e.samples
 
 -- a frame with no accepted addition is no child
 abbrev pub HeldIs : Option ℕ → List Addition → Option Edge → Type 0
-HeldIs age xs none = xs ≡ []
-HeldIs age xs (some e) = EdgeIs age xs e
+HeldIs age xs None = xs ≡ []
+HeldIs age xs (Some e) = EdgeIs age xs e
 
 pub edge_updated : (age : Option ℕ) (xs : List Addition) (held : Option Edge) (a : Addition)
     → HeldIs age xs held → Suits held a → EdgeIs age (xs ++ (a ∷ [])) (updated_edge age a held)
-edge_updated age xs none a r s = rw r first
+edge_updated age xs None a r s = rw r first
   where
-    empty : (i : ℕ) → none ≡ left age [] i
+    empty : (i : ℕ) → None ≡ left age [] i
     empty i = both (survives age 0 i) (λ e. rw e) (λ e. rw e)
 
-    first : EdgeIs age (a ∷ []) (updated_edge age a none)
+    first : EdgeIs age (a ∷ []) (updated_edge age a None)
     first = record {
       samples_are = left_snoc age [] a [] refl empty;
       newest_is = newest_insert_lem age (instant_of a.stamp) a.pose [];
@@ -109,7 +109,7 @@ edge_updated age xs none a r s = rw r first
       alike = (refl, tt);
       rising = rising_insert age (instant_of a.stamp) a.pose [] tt;
     }
-edge_updated age xs (some e) a r s = record {
+edge_updated age xs (Some e) a r s = record {
   samples_are = left_snoc age xs a e.samples r.newest_is r.samples_are;
   newest_is = newest_insert_lem age (instant_of a.stamp) a.pose e.samples ∙ rw (greatest_snoc, r.newest_is);
   parent_is = head_snoc (λ (x : Addition). x.parent) xs a e.parent r.parent_is;
@@ -136,13 +136,13 @@ static_at i (a ∷ xs) h =
     (both (eqb 0 i) (λ e. rw e (ap {B = List Addition} (λ r. a ∷ r) (rw e at ih))) (λ e. rw e (rw e at ih)))
 
 survives_recent : (age : Option ℕ) (n i : ℕ) → survives age n i ≡ recent age n i
-survives_recent none n i = refl
-survives_recent (some age) n i =
+survives_recent None n i = refl
+survives_recent (Some age) n i =
     both (ltb n age)
     (λ e. rw e (let h = ltb-true n age e in le-leb (n - age) i (omega arith)))
     (λ e. rw e)
 
-left_is : (age : Option ℕ) (xs : List Addition) (k : Kind) → Alike k xs → (i : ℕ) → left age xs i ≡ survivor_in age (some k) xs i
+left_is : (age : Option ℕ) (xs : List Addition) (k : Kind) → Alike k xs → (i : ℕ) → left age xs i ≡ survivor_in age (Some k) xs i
 left_is age xs Static h i =
     rw (static_newest xs h, survives_zero age i, static_at i xs h)
     (both (eqb i 0)
@@ -152,18 +152,18 @@ left_is age xs Dynamic h i = rw survives_recent
 
 -- what a tree says of a frame
 abbrev pub parent_in : Option Edge → Option ℕ
-parent_in held = Option.map (λ (e : Edge). e.parent) held
+parent_in held = option_map (λ (e : Edge). e.parent) held
 
 abbrev pub kind_in : Option Edge → Option Kind
-kind_in held = Option.map (λ (e : Edge). e.kind) held
+kind_in held = option_map (λ (e : Edge). e.kind) held
 
 abbrev pub sample_in : Option Edge → ℕ → Option Isometry
-sample_in none i = none
-sample_in (some e) i = get e.samples i
+sample_in None i = None
+sample_in (Some e) i = get e.samples i
 
 abbrev pub RisingIn : Option Edge → Type 0
-RisingIn none = Unit {0}
-RisingIn (some e) = Rising e.samples
+RisingIn None = Unit {0}
+RisingIn (Some e) = Rising e.samples
 
 -- it is what the accepted additions say
 pub record FrameIs (age : Option ℕ) (f : ℕ) (xs : List Addition) (held : Option Edge) : Type 0 where
@@ -174,8 +174,8 @@ pub record FrameIs (age : Option ℕ) (f : ℕ) (xs : List Addition) (held : Opt
 
 pub frame_is : (age : Option ℕ) (f : ℕ) (xs : List Addition) (held : Option Edge) → HeldIs age (own f xs) held → FrameIs age f xs held
 unfolding parent_of frame_kind survivor
-frame_is age f xs none h = record { parents = rw h; kinds = rw h; survivors = λ i. rw h; rising = tt }
-frame_is age f xs (some e) h = record {
+frame_is age f xs None h = record { parents = rw h; kinds = rw h; survivors = λ i. rw h; rising = tt }
+frame_is age f xs (Some e) h = record {
   parents = h.parent_is;
   kinds = h.kind_is;
   survivors = λ i. rw h.kind_is (sym (h.samples_are i ∙ left_is age (own f xs) e.kind h.alike i));

@@ -2,7 +2,7 @@
 use Prim.Native.Nat.{ℕ, zero, suc, ◌≤◌, ◌<◌}
 use mathlib.Core.Path.{◌≡◌, refl, sym, ap}
 use mathlib.Core.Logic.{◌↔◌}
-use mathlib.Core.Option.{none, some}
+use Rattle.std.specs.Prelude.{None, Some}
 use mathlib.Core.List.{[], ◌∷◌, ◌++◌}
 use native.Mathlib.Omega.{arith}
 use lib.ListN.{length, get_or, set, take, drop}
@@ -48,14 +48,14 @@ module _ {A : Type 0} (d : ℕ × A) where
 
   -- ---- a number that stands at place r
 
-  pub get_at : (m : Map A) → Rising m → (f r : ℕ) → r < length m → key m r ≡ f → get m f ≡ some (get_or m r d).1
+  pub get_at : (m : Map A) → Rising m → (f r : ℕ) → r < length m → key m r ≡ f → get m f ≡ Some (get_or m r d).1
   get_at [] s f r l e = absurd (omega arith)
   get_at (x ∷ m) s f zero l e = rw (eq-eqb f x.0 (sym e))
   get_at (x ∷ m) s f (suc r) l e =
       let g = floor_at x.0 m s.0 r (omega arith) in
       rw (ne_eqb f x.0 (λ q. omega arith)) (get_at m s.1 f r (omega arith) e)
 
-  pub get_place : (m : Map A) (f : ℕ) (v : A) → get m f ≡ some v → (r : ℕ) × (r < length m) × (key m r ≡ f)
+  pub get_place : (m : Map A) (f : ℕ) (v : A) → get m f ≡ Some v → (r : ℕ) × (r < length m) × (key m r ≡ f)
   get_place [] f v q = absurd (none_some q)
   get_place (x ∷ m) f v q =
       both (eqb f x.0)
@@ -91,7 +91,7 @@ module _ {A : Type 0} (d : ℕ × A) where
     above = λ j p l. g.above (suc j) (omega arith) (omega arith);
   }
 
-  pub get_gap : (m : Map A) (f k : ℕ) → Gap m f k → get m f ≡ none
+  pub get_gap : (m : Map A) (f k : ℕ) → Gap m f k → get m f ≡ None
   get_gap [] f k g = refl
   get_gap (x ∷ m) f zero g =
       let u = g.above 0 (omega arith) (omega arith) in

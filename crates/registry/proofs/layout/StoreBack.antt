@@ -2,7 +2,7 @@
 use Prim.Native.Nat.{ℕ, zero, suc, ◌+◌, ◌*◌, ◌≤◌, ◌<◌}
 use mathlib.Core.Path.{◌≡◌, refl, sym, ap, ◌∙◌}
 use mathlib.Core.Bool.{true}
-use mathlib.Core.Option.{Option, none, some}
+use Rattle.std.specs.Prelude.{Option, None, Some}
 use mathlib.Core.List.{List, [], ◌∷◌, ◌++◌, append_assoc}
 use native.Mathlib.Omega.{arith}
 use native.Mathlib.Nat.{zero-mul, suc-mul, mul_left_comm, mul-le-mul_right}
@@ -23,8 +23,8 @@ use Rattle.registry.specs.Store.{kind_word, flag_word, age_word, row_words, enco
 -- ---- the limits
 
 pub age_back : (age : Option ℕ) → age_of (flag_word age) (age_word age) ≡ age
-age_back none = refl
-age_back (some n) = refl
+age_back None = refl
+age_back (Some n) = refl
 
 pub limits_back : (L : Limits) (t : Tree) → limits_of (stored L t) ≡ L
 unfolding limits_of stored encode

@@ -2,7 +2,7 @@
 use Prim.Native.Nat.{ℕ, zero, suc, ◌-◌, ◌*◌}
 use mathlib.Core.Path.{◌≡◌, refl, sym, ap, ◌∙◌}
 use mathlib.Core.Logic.{◌↔◌}
-use mathlib.Core.Option
+use Rattle.std.specs.Prelude.{option_map}
 use mathlib.Core.List.{List, [], ◌∷◌, ◌++◌, map, map-append, map-map}
 use lib.Dec.{eqb}
 use lib.ListN.{length, get_or, take, drop, replicate, length-map, get_or-map}
@@ -30,7 +30,7 @@ module _ {A B : Type 0} (f : A → B) where
   abbrev pub map_values : Map A → Map B
   map_values m = map with_value m
 
-  pub get_map_values : (m : Map A) (k : ℕ) → get (map_values m) k ≡ Option.map f (get m k)
+  pub get_map_values : (m : Map A) (k : ℕ) → get (map_values m) k ≡ option_map f (get m k)
   get_map_values [] k = refl
   get_map_values (x ∷ m) k = both (eqb k x.0) (λ e. rw e) (λ e. rw e (get_map_values m k))
 

@@ -2,7 +2,7 @@
 use Prim.Native.Nat.{ℕ, ◌+◌, ◌-◌, ◌*◌, ◌<◌}
 use mathlib.Core.Path.{◌≡◌, refl, sym, ap, ◌∙◌}
 use mathlib.Core.Bool.{Bool, true, ◌||◌}
-use mathlib.Core.Option.{Option, none, some}
+use Rattle.std.specs.Prelude.{Option, None, Some}
 use mathlib.Core.List.{List}
 use native.Mathlib.Nat.{mul_left_comm}
 use native.Mathlib.Omega.{arith}
@@ -57,15 +57,15 @@ module _ (L : Limits) (t : Tree) (range : InRange L.rows L.capacity) (s : SoundT
   stored_flag = named L.age
     where
       named : (age : Option ℕ) → leb (flag_word age) 1 ≡ true
-      named none = refl
-      named (some a) = refl
+      named None = refl
+      named (Some a) = refl
 
   stored_word : (eqb (flag_word L.age) 1 || eqb (age_word L.age) 0) ≡ true
   stored_word = named L.age
     where
       named : (age : Option ℕ) → (eqb (flag_word age) 1 || eqb (age_word age) 0) ≡ true
-      named none = refl
-      named (some a) = refl
+      named None = refl
+      named (Some a) = refl
 
   -- ---- rows
 

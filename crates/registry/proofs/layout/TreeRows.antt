@@ -2,7 +2,7 @@
 use Prim.Native.Nat.{ℕ, zero, suc, ◌<◌}
 use mathlib.Core.Path.{◌≡◌, refl, sym, ap, ◌∙◌}
 use mathlib.Core.Logic.{◌↔◌}
-use mathlib.Core.Option.{Option, none, some}
+use Rattle.std.specs.Prelude.{Option, None, Some}
 use native.Mathlib.Omega.{arith}
 use lib.ListN.{length, get_or}
 use Rattle.buffer.specs.Map.{get}
@@ -47,14 +47,14 @@ module _ (s : Store) where
   tree_rises = (λ h. (rising_by_keys blank (tree_of s)).1 (children_keys h), λ r. keys_children ((rising_by_keys blank (tree_of s)).0 r))
 
   -- what a search says
-  pub get_found : ChildrenRise → (f r : ℕ) → IsRow s.head f r → get (tree_of s) f ≡ some (edge_at s r)
+  pub get_found : ChildrenRise → (f r : ℕ) → IsRow s.head f r → get (tree_of s) f ≡ Some (edge_at s r)
   get_found h f r found =
       let l : r < used_in s = found.used in
       get_at blank (tree_of s) (tree_rises.0 h) f r (rw length_tree l) (tree_key r l ∙ found.child)
-      ∙ ap {B = Option Edge} (λ (x : ℕ × Edge). some x.1) (tree_row r l)
+      ∙ ap {B = Option Edge} (λ (x : ℕ × Edge). Some x.1) (tree_row r l)
 
   -- a child has a row
-  pub row_of : (f : ℕ) (e : Edge) → get (tree_of s) f ≡ some e → (r : ℕ) × IsRow s.head f r
+  pub row_of : (f : ℕ) (e : Edge) → get (tree_of s) f ≡ Some e → (r : ℕ) × IsRow s.head f r
   row_of f e q =
       let z = get_place blank (tree_of s) f e q in
       let l : z.0 < used_in s = rw length_tree at z.1 in
@@ -67,5 +67,5 @@ module _ (s : Store) where
     above = λ j p l. let w : j < used_in s = rw length_tree at l in rw (tree_key j w) (absent.above j p w);
   }
 
-  pub get_absent : (f k : ℕ) → AbsentAt s.head f k → get (tree_of s) f ≡ none
+  pub get_absent : (f k : ℕ) → AbsentAt s.head f k → get (tree_of s) f ≡ None
   get_absent f k absent = get_gap blank (tree_of s) f k (gap_absent f k absent)

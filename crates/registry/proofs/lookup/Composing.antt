@@ -1,7 +1,7 @@
 -- The poses of a side, composed while climbing: what is left of the climb decides.
 use Prim.Native.Nat.{ℕ}
 use mathlib.Core.Path.{◌≡◌, refl, sym, ap, subst, ◌∙◌}
-use mathlib.Core.Option.{Option, none, some, map}
+use Rattle.std.specs.Prelude.{Option, None, Some, option_map}
 use mathlib.Core.List.{List, []}
 use Rattle.time.specs.Reply.{Carried, Reply, answer, refusal, ◌then◌}
 use Rattle.time.proofs.Replies.{refusal_answer}
@@ -20,28 +20,28 @@ use Rattle.registry.proofs.paths.SideHops.{ChildOf, hops_end, hops_up, hops_root
 -- ---- what the pose of a frame tells of its edge
 
 abbrev parent_by : Reply (Option (Isometry × ℕ)) → Option ℕ
-parent_by (answer x) = map (λ y. y.1) x
-parent_by (refusal k c) = none
+parent_by (answer x) = option_map (λ y. y.1) x
+parent_by (refusal k c) = None
 
 module _ (t : Tree) (f i : ℕ) where
-  pub pose_parent : (x : Isometry) (p : ℕ) → answer (some (x, p)) ≡ edge_pose t f i → ChildOf t f p
+  pub pose_parent : (x : Isometry) (p : ℕ) → answer (Some (x, p)) ≡ edge_pose t f i → ChildOf t f p
   pose_parent x p e =
       edge_or (get t f)
       (λ q. absurd (none_some {a = p} (sym (ap parent_by e ∙ rw q))))
       (λ d q. (d, q, by d.parent (served f d.kind d.samples i) (ap parent_by e ∙ rw q)))
     where
-      by : (k : ℕ) (r : Reply Isometry) → some p ≡ parent_by (r then λ y. answer (some (y, k))) → k ≡ p
+      by : (k : ℕ) (r : Reply Isometry) → Some p ≡ parent_by (r then λ y. answer (Some (y, k))) → k ≡ p
       by k (answer y) z = cc
       by k (refusal n c) z = cc
 
-  pub unserved_child : (k : ℕ) (c : Carried) → refusal k c ≡ edge_pose t f i → (e : Edge) × (get t f ≡ some e)
-  unserved_child k c e = edge_or (get t f) (λ q. absurd (refusal_answer {v = none} (e ∙ rw q))) (λ d q. (d, q))
+  pub unserved_child : (k : ℕ) (c : Carried) → refusal k c ≡ edge_pose t f i → (e : Edge) × (get t f ≡ Some e)
+  unserved_child k c e = edge_or (get t f) (λ q. absurd (refusal_answer {v = None} (e ∙ rw q))) (λ d q. (d, q))
 
 -- ---- the side from a frame, by its pose
 
 abbrev pub fold_on : Tree → (top i : ℕ) → Option Isometry → Option (Isometry × ℕ) → Reply (Option Isometry)
-fold_on t top i below none = answer below
-fold_on t top i below (some x) = fold (some (onto x.0 below)) (hops_to t x.1 top) i
+fold_on t top i below None = answer below
+fold_on t top i below (Some x) = fold (Some (onto x.0 below)) (hops_to t x.1 top) i
 
 fold_by : (t : Tree) → Grounded t → (f top i : ℕ) (below : Option Isometry) → (f ≡ top → ⊥)
     → fold below (hops_to t f top) i ≡ (edge_pose t f i then fold_on t top i below)
@@ -53,7 +53,7 @@ fold_by t gr f top i below ne =
     ∙ sym (rw q (by (served f e.kind e.samples i) e.parent)))
   where
     by : (r : Reply Isometry) (p : ℕ)
-        → ((r then λ x. answer (some (x, p))) then fold_on t top i below) ≡ (r then λ x. fold (some (onto x below)) (hops_to t p top) i)
+        → ((r then λ x. answer (Some (x, p))) then fold_on t top i below) ≡ (r then λ x. fold (Some (onto x below)) (hops_to t p top) i)
     by (answer x) p = refl
     by (refusal k c) p = refl
 
@@ -61,14 +61,14 @@ fold_by t gr f top i below ne =
 
 -- the side from the frame is what is below, and then the side from `at`
 abbrev pub Composing : Tree → (frame top i at : ℕ) → Option Isometry → Type 0
-Composing t frame top i at below = fold none (hops_to t frame top) i ≡ fold below (hops_to t at top) i
+Composing t frame top i at below = fold None (hops_to t frame top) i ≡ fold below (hops_to t at top) i
 
 module _ (t : Tree) (frame top i at : ℕ) (below : Option Isometry) (w : Composing t frame top i at below) where
-  pub composing_top : at ≡ top → answer below ≡ fold none (hops_to t frame top) i
+  pub composing_top : at ≡ top → answer below ≡ fold None (hops_to t frame top) i
   composing_top e = sym (w ∙ ap (λ (hs : List Hop). fold below hs i) (subst (λ (x : ℕ). hops_to t at x ≡ []) e (hops_end t at)))
 
   -- of `at` r was read, which is v
   pub composing_hop : Grounded t → (at ≡ top → ⊥) → {r v : HopPose} → r ≡ v → pose_read at r ≡ edge_pose t at i
-      → fold none (hops_to t frame top) i ≡ (pose_read at v then fold_on t top i below)
+      → fold None (hops_to t frame top) i ≡ (pose_read at v then fold_on t top i below)
   composing_hop gr ne told e =
       w ∙ fold_by t gr at top i below ne ∙ ap (λ (x : Reply (Option (Isometry × ℕ))). x then fold_on t top i below) (sym e ∙ ap (pose_read at) told)

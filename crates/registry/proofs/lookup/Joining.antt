@@ -1,7 +1,7 @@
 -- inverse(target side) times source side, tested, by what the inverse replies: 13, 14 or 3 where it refuses. Of two empty sides it is the identity.
 use mathlib.Core.Path.{◌≡◌, refl}
 use mathlib.Core.Bool.{Bool, true, false, not}
-use mathlib.Core.Option.{Option, none, some}
+use Rattle.std.specs.Prelude.{Option, None, Some}
 use native.Mathlib.Omega.{arith}
 use lib.Ieee.{lt, of_bits}
 use lib.Ieee.Scale.{finite}
@@ -24,7 +24,7 @@ abbrev pub tested : Isometry → Reply Value
 tested out = finitePose out then λ p. answer (pose p)
 
 -- nothing is inverted and nothing overflows
-pub empty_sides : combined none none ≡ answer (pose identity)
+pub empty_sides : combined None None ≡ answer (pose identity)
 unfolding finitePose of_bits
 empty_sides = refl
 
@@ -32,13 +32,13 @@ then_answer : {A : Type 0} (r : Reply A) → r ≡ (r then λ a. answer a)
 then_answer (answer a) = refl
 then_answer (refusal k c) = refl
 
-joined_onto : (target : Isometry) (source : Option Isometry) → joined (some target) source ≡ (inverse target then λ back. answer (onto back source))
-joined_onto target none = then_answer (inverse target)
-joined_onto target (some source) = refl
+joined_onto : (target : Isometry) (source : Option Isometry) → joined (Some target) source ≡ (inverse target then λ back. answer (onto back source))
+joined_onto target None = then_answer (inverse target)
+joined_onto target (Some source) = refl
 
 -- what the two sides reply, where the target's is not empty
 pub inverse_onto : (target : Isometry) (source : Option Isometry) (r : Reply Isometry) → r ≡ inverse target
-    → (r then λ back. tested (onto back source)) ≡ combined (some target) source
+    → (r then λ back. tested (onto back source)) ≡ combined (Some target) source
 inverse_onto target source r e =
     rw (joined_onto target source, ← e) (outs r)
   where

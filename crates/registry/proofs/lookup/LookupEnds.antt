@@ -2,7 +2,7 @@
 use Prim.Native.Nat.{ℕ}
 use mathlib.Core.Path.{◌≡◌, refl, sym, ap, ◌∙◌}
 use mathlib.Core.Bool.{Bool, true, false, cond}
-use mathlib.Core.Option.{Option, none}
+use Rattle.std.specs.Prelude.{Option, None}
 use mathlib.Core.List.{List}
 use lib.Dec.{eqb}
 use borrow.Author.Tests.{eq-eqb, ne_eqb}
@@ -19,7 +19,7 @@ use Rattle.registry.proofs.paths.AskEnds.{ask_ends}
 
 -- both sides are folded before it is told whether they meet
 fold_both : (meets : Bool) (i : ℕ) (a b : List Hop)
-    → (fold none a i then λ p. fold none b i then λ q. cond meets (combined p q) (refusal 10 nothing))
+    → (fold None a i then λ p. fold None b i then λ q. cond meets (combined p q) (refusal 10 nothing))
     ≡ cond meets (lookup_along i a b) (lookup_apart i a b)
 fold_both true i a b = refl
 fold_both false i a b = refl
@@ -29,12 +29,12 @@ pub composed_is : (c v : Composed) (r : Reply (Option Isometry)) → c ≡ v →
 composed_is c v r e h = sym (ap composed_reply e) ∙ h
 
 module _ (t : Tree) (gr : Grounded t) (f g x y i : ℕ) (ends : EndAt t f g x y) where
-  pub lookup_ends : (a b : Reply (Option Isometry)) → a ≡ fold none (hops_to t f x) i → b ≡ fold none (hops_to t g y) i
+  pub lookup_ends : (a b : Reply (Option Isometry)) → a ≡ fold None (hops_to t f x) i → b ≡ fold None (hops_to t g y) i
       → (a then λ p. b then λ q. cond (eqb x y) (combined p q) (refusal 10 nothing)) ≡ ask_known t f g (lookup_along i) (lookup_apart i)
   lookup_ends a b p q =
       rw (p, q) (fold_both (eqb x y) i (hops_to t f x) (hops_to t g y) ∙ sym (ask_ends (lookup_along i) (lookup_apart i) t f g gr x y ends))
 
-  module _ (a b : Option Isometry) (p : answer a ≡ fold none (hops_to t f x) i) (q : answer b ≡ fold none (hops_to t g y) i) where
+  module _ (a b : Option Isometry) (p : answer a ≡ fold None (hops_to t f x) i) (q : answer b ≡ fold None (hops_to t g y) i) where
     pub lookup_apart_lem : (x ≡ y → ⊥) → refusal 10 nothing ≡ ask_known t f g (lookup_along i) (lookup_apart i)
     lookup_apart_lem ne = sym (rw (ne_eqb x y ne)) ∙ lookup_ends (answer a) (answer b) p q
 

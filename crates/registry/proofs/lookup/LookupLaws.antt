@@ -3,7 +3,7 @@ use Prim.Native.Nat.{ℕ}
 use mathlib.Core.Path.{◌≡◌, refl}
 use mathlib.Core.Logic.{◌↔◌, inl, inr}
 use mathlib.Core.Bool.{Bool, true}
-use mathlib.Core.Option.{Option, none, some}
+use Rattle.std.specs.Prelude.{Option, None, Some}
 use mathlib.Core.List.{List, [], ◌∷◌, ◌++◌}
 use lib.Dec.{eqb}
 use Rattle.time.specs.Reply.{Carried, nothing, frame, hop, Reply, refusal, ◌then◌}
@@ -63,11 +63,11 @@ unfolding side
 above_side t f g m = rw m
 
 uninverted : (i : ℕ) (b : List Hop) → Every (Serves from_above i) b → Only from_above (lookup_along i [] b)
-uninverted i b s = on_then _ (fold_only from_above i none b s) kept
+uninverted i b s = on_then _ (fold_only from_above i None b s) kept
   where
-    kept : (y : Option Isometry) → Only from_above (combined none y)
-    kept none = on_then _ (finite_only from_above refl identity) (λ p. answered refl)
-    kept (some x) = on_then _ (finite_only from_above refl x) (λ p. answered refl)
+    kept : (y : Option Isometry) → Only from_above (combined None y)
+    kept None = on_then _ (finite_only from_above refl identity) (λ p. answered refl)
+    kept (Some x) = on_then _ (finite_only from_above refl x) (λ p. answered refl)
 
 pub lookup_from_above : LookupFromAbove
 unfolding lookup

@@ -3,7 +3,7 @@ use Prim.Native.Nat.{ℕ, ◌≤◌}
 use mathlib.Core.Path.{◌≡◌, refl, sym, ap, subst, subst⁻¹, ◌∙◌}
 use mathlib.Core.Logic.{◌↔◌}
 use mathlib.Core.Bool.{true, false}
-use mathlib.Core.Option.{Option, none, some}
+use Rattle.std.specs.Prelude.{Option, None, Some}
 use mathlib.Core.List.{List, [], ◌∷◌, ◌++◌, append_assoc}
 use native.Mathlib.Omega.{arith}
 use lib.Dec.{leb}
@@ -79,14 +79,14 @@ module _ (age : Option ℕ) (capacity i : ℕ) where
 
   folded : (below : Option Isometry) (hs : List Hop) → Every Sound hs → Folded hs (fold below hs i)
   folded below [] s = through below refl tt
-  folded below (h ∷ hs) s = by (λ p. folded (some (onto p below)) hs s.1) (serving i age capacity h.0 h.1.kind h.1.samples s.0)
+  folded below (h ∷ hs) s = by (λ p. folded (Some (onto p below)) hs s.1) (serving i age capacity h.0 h.1.kind h.1.samples s.0)
     where
-      next : (p : Isometry) → served h.0 h.1.kind h.1.samples i ≡ answer p → Inside i h → Folded hs (fold (some (onto p below)) hs i)
+      next : (p : Isometry) → served h.0 h.1.kind h.1.samples i ≡ answer p → Inside i h → Folded hs (fold (Some (onto p below)) hs i)
           → Folded (h ∷ hs) (fold below (h ∷ hs) i)
       next p e k (through q z w) = through q (rw e z) (k, w)
       next p e k (stops x z f) = stops x (rw e z) (behind h x hs k f)
 
-      by : ((p : Isometry) → Folded hs (fold (some (onto p below)) hs i))
+      by : ((p : Isometry) → Folded hs (fold (Some (onto p below)) hs i))
           → Serving i h.0 h.1.kind h.1.samples (served h.0 h.1.kind h.1.samples i) → Folded (h ∷ hs) (fold below (h ∷ hs) i)
       by rest (serves p e k) = next p e k (rest p)
       by rest (fails e k) =
@@ -122,14 +122,14 @@ module _ (age : Option ℕ) (capacity i : ℕ) where
 
   -- the target's hops are all served, with x for their product, and the source's, with y; or a hop fails
   pub data Walked (a b : List Hop) (last : Option Isometry → Option Isometry → Reply Value) (r : Reply Value) : Type 0 where
-    arrives : (x y : Option Isometry) → fold none a i ≡ answer x → fold none b i ≡ answer y → r ≡ last x y → Every (Inside i) (a ++ b) → Walked a b last r
+    arrives : (x y : Option Isometry) → fold None a i ≡ answer x → fold None b i ≡ answer y → r ≡ last x y → Every (Inside i) (a ++ b) → Walked a b last r
     halts : (h : Hop) → r ≡ refusal 11 (hop h.0 (range h.1.samples)) → Fails h (a ++ b) → Walked a b last r
 
   walked : (a b : List Hop) (last : Option Isometry → Option Isometry → Reply Value) → Every Sound a → Every Sound b
-      → Walked a b last (fold none a i then λ x. fold none b i then λ y. last x y)
-  walked a b last sa sb = by (folded none a sa) (folded none b sb)
+      → Walked a b last (fold None a i then λ x. fold None b i then λ y. last x y)
+  walked a b last sa sb = by (folded None a sa) (folded None b sb)
     where
-      by : Folded a (fold none a i) → Folded b (fold none b i) → Walked a b last (fold none a i then λ x. fold none b i then λ y. last x y)
+      by : Folded a (fold None a i) → Folded b (fold None b i) → Walked a b last (fold None a i then λ x. fold None b i then λ y. last x y)
       by (stops h e f) w = halts h (rw e) (fails_front h a b f)
       by (through x e k) (stops h z f) = halts h (rw (e, z)) (fails_back h a b k f)
       by (through x e k) (through y z l) = arrives x y e z (rw (e, z)) (every_append (Inside i) a b k l)

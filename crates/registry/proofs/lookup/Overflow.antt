@@ -2,7 +2,7 @@
 use Prim.Native.Nat.{ℕ}
 use mathlib.Core.Path.{◌≡◌, refl, sym, subst⁻¹, ◌∙◌}
 use mathlib.Core.Bool.{true, not}
-use mathlib.Core.Option.{Option, none, some}
+use Rattle.std.specs.Prelude.{Option, None, Some}
 use mathlib.Core.List.{List, [], ◌∷◌, ◌++◌}
 use native.Mathlib.Omega.{arith}
 use borrow.Author.Tests.{not-false}
@@ -28,16 +28,16 @@ use Rattle.registry.proofs.lookup.Joining.{tested, empty_sides}
 
 -- its product is finite, if it has one
 abbrev Finite : Option Isometry → Type 0
-Finite none = Unit {0}
-Finite (some p) = is_finite p ≡ true
+Finite None = Unit {0}
+Finite (Some p) = is_finite p ≡ true
 
 side_answered : (o : Option Isometry) → Finite o → Answered (finite_side o)
-side_answered none h = (none, refl)
-side_answered (some p) h = (some p, rw (finite_passes p h))
+side_answered None h = (None, refl)
+side_answered (Some p) h = (Some p, rw (finite_passes p h))
 
 onto_finite : (p : Isometry) (below : Option Isometry) → is_finite (onto p below) ≡ true → (is_finite p ≡ true) × Finite below
-onto_finite p none h = (h, tt)
-onto_finite p (some q) h = overflow_stays.products p q h
+onto_finite p None h = (h, tt)
+onto_finite p (Some q) h = overflow_stays.products p q h
 
 module _ (i : ℕ) where
   -- of the hops above what is below
@@ -61,13 +61,13 @@ module _ (i : ℕ) where
       none_left here [] after z = side_answered below here
       none_left here (x ∷ before) after z = absurd (let w : ◌≡◌ {A = ℕ} 0 1 = cc in omega arith)
   along below (h ∷ hs) all e f =
-      let (p, s, rest) = then_answered (served h.0 h.1.kind h.1.samples i) (λ p. fold (some (onto p below)) hs i) all e in
-      let above = along (some (onto p below)) hs all rest f in
+      let (p, s, rest) = then_answered (served h.0 h.1.kind h.1.samples i) (λ p. fold (Some (onto p below)) hs i) all e in
+      let above = along (Some (onto p below)) hs all rest f in
       let (here, under) = onto_finite p below above.start in
       record { start = under; queries = (query_answered h p s here, above.queries); folds = some_left p s under above.folds }
     where
       some_left : (p : Isometry) → served h.0 h.1.kind h.1.samples i ≡ answer p → Finite below
-          → ((before after : List Hop) → hs ≡ before ++ after → Answered (fold (some (onto p below)) before i then finite_side))
+          → ((before after : List Hop) → hs ≡ before ++ after → Answered (fold (Some (onto p below)) before i then finite_side))
           → (before after : List Hop) → h ∷ hs ≡ before ++ after → Answered (fold below before i then finite_side)
       some_left p s under folds [] after z = side_answered below under
       some_left p s under folds (x ∷ before) after z =
@@ -78,10 +78,10 @@ module _ (i : ℕ) where
 -- ---- two sides
 
 joined_finite : (a b : Option Isometry) (out : Isometry) → joined a b ≡ answer out → is_finite out ≡ true → Finite a × Finite b
-joined_finite none none out e h = (tt, tt)
-joined_finite none (some y) out e h = (tt, subst⁻¹ (λ (p : Isometry). is_finite p ≡ true) (answer_in e) h)
-joined_finite (some x) none out e h = (overflow_stays.inverses x out e, tt)
-joined_finite (some x) (some y) out e h =
+joined_finite None None out e h = (tt, tt)
+joined_finite None (Some y) out e h = (tt, subst⁻¹ (λ (p : Isometry). is_finite p ≡ true) (answer_in e) h)
+joined_finite (Some x) None out e h = (overflow_stays.inverses x out e, tt)
+joined_finite (Some x) (Some y) out e h =
     let (back, inverted, z) = then_answered (inverse x) (λ back. answer (product back y)) out e in
     let (first, second) = overflow_stays.products back y (subst⁻¹ (λ (p : Isometry). is_finite p ≡ true) (answer_in z) h) in
     (overflow_stays.inverses x back inverted, second)
@@ -112,17 +112,17 @@ module _ (t : Tree) (f g i : ℕ) (p : Isometry) (h : lookup t f g i ≡ answer 
       both (connected t f g)
       (λ m. sym (ask_along (pose identity) (lookup_along i) (lookup_apart i) t f g two empty_sides m) ∙ h)
       (λ m.
-      let (a, x, y) = then_answered (fold none (hops t (chain t f)) i) _ (pose p) (sym (ask_apart (pose identity) (lookup_along i) (lookup_apart i) t f g two m) ∙ h) in
-      let (b, u, v) = then_answered (fold none (hops t (chain t g)) i) _ (pose p) y in
+      let (a, x, y) = then_answered (fold None (hops t (chain t f)) i) _ (pose p) (sym (ask_apart (pose identity) (lookup_along i) (lookup_apart i) t f g two m) ∙ h) in
+      let (b, u, v) = then_answered (fold None (hops t (chain t g)) i) _ (pose p) y in
       absurd (refusal_answer v))
 
   lookup_finite_lem : (is_finite p ≡ true) × (FiniteAlong i A × FiniteAlong i B)
   lookup_finite_lem =
-      let (a, x, y) = then_answered (fold none A i) _ (pose p) on_path in
-      let (b, u, v) = then_answered (fold none B i) (combined a) (pose p) y in
+      let (a, x, y) = then_answered (fold None A i) _ (pose p) on_path in
+      let (b, u, v) = then_answered (fold None B i) (combined a) (pose p) y in
       let (good, sides) = combined_finite a b p v in
-      let target = along i none A a x sides.0 in
-      let source = along i none B b u sides.1 in
+      let target = along i None A a x sides.0 in
+      let source = along i None B b u sides.1 in
       (good, (record { queries = target.queries; folds = target.folds }, record { queries = source.queries; folds = source.folds }))
 
 pub lookup_finite_throughout : LookupFiniteThroughout

@@ -2,7 +2,7 @@
 use Prim.Native.Nat.{ℕ, ◌≤◌}
 use mathlib.Core.Path.{◌≡◌, refl, ◌∙◌}
 use mathlib.Core.Bool.{not, ◌&&◌}
-use mathlib.Core.Option.{Option, none, some}
+use Rattle.std.specs.Prelude.{Option, None, Some}
 use native.Mathlib.Omega.{arith}
 use lib.Dec.{eqb, leb, ltb}
 use lib.ListN.{length}
@@ -67,7 +67,7 @@ add_due_lem L t a few =
     (refuse_due (other_parent held a.parent) 6 (current_parent held) _ _
     (refuse_due (other_kind held (kind_of a.stamp)) 8 nothing _ _
     (refuse_due (is_absent held && eqb (length t) L.rows) 16 nothing _ _
-    (refuse_due (ltb L.capacity (length (updated_edge L.age a held).samples)) 17 nothing _ none refl)))))))
+    (refuse_due (ltb L.capacity (length (updated_edge L.age a held).samples)) 17 nothing _ None refl)))))))
 
 pub add_first_due : AddFirstDue
 unfolding add_of limits_of
@@ -82,9 +82,9 @@ wipe_due_lem : (t : Tree) (f i : ℕ) → refused (wipe t f i) ≡ first_due (wi
 unfolding wipe wipe_due
 wipe_due_lem t f i = by (get t f)
   where
-    by : (held : Option Edge) → refused (wiped f i t held) ≡ due_or 9 (when (is_absent held) (frame f)) none
-    by none = refl
-    by (some e) = refl
+    by : (held : Option Edge) → refused (wiped f i t held) ≡ due_or 9 (when (is_absent held) (frame f)) None
+    by None = refl
+    by (Some e) = refl
 
 pub wipe_first_due : WipeFirstDue
 unfolding wipe_of

@@ -3,7 +3,7 @@ use Prim.Native.Nat.{ℕ}
 use mathlib.Core.Path.{◌≡◌, refl, ap, ◌∙◌}
 use mathlib.Core.Logic.{◌↔◌}
 use mathlib.Core.Bool.{Bool, true, false}
-use mathlib.Core.Option.{none, some}
+use Rattle.std.specs.Prelude.{None, Some}
 use mathlib.Core.List.{List, [], ◌∷◌, ◌++◌}
 use lib.Dec.{leb}
 use borrow.Author.Tests.{leb-true, le-leb}
@@ -38,17 +38,17 @@ module _ (i : ℕ) where
 -- ---- the first hop at fault, where hops that have P are not
 
 module _ (fault : Coverage → Bool) (P : Hop → Type 0) (free : (h : Hop) → P h → fault (cover h) ≡ false) where
-  pub first_none : (hs : List Hop) → Every P hs → first_hop fault hs ≡ none
+  pub first_none : (hs : List Hop) → Every P hs → first_hop fault hs ≡ None
   first_none [] k = refl
   first_none (h ∷ hs) k = rw (free h k.0) (first_none hs k.1)
 
   first_past : (before : List Hop) (h : Hop) (after : List Hop) → Every P before → fault (cover h) ≡ true
-      → first_hop fault (before ++ (h ∷ after)) ≡ some (hop h.0 (range h.1.samples))
+      → first_hop fault (before ++ (h ∷ after)) ≡ Some (hop h.0 (range h.1.samples))
   first_past [] h after k e = rw e
   first_past (x ∷ before) h after k e = rw (free x k.0) (first_past before h after k.1 e)
 
   pub first_placed : (Q : Hop → Type 0) (h : Hop) (hs : List Hop) → Placed P h Q hs → fault (cover h) ≡ true
-      → first_hop fault hs ≡ some (hop h.0 (range h.1.samples))
+      → first_hop fault hs ≡ Some (hop h.0 (range h.1.samples))
   first_placed Q h hs p e = ap (first_hop fault) p.place ∙ first_past p.before h p.after p.earlier e
 
 -- ---- a test that every hop passes

@@ -2,7 +2,7 @@
 use Prim.Native.Nat.{ℕ}
 use mathlib.Core.Path.{◌≡◌, ◌∙◌}
 use mathlib.Core.Bool.{not}
-use mathlib.Core.Option.{Option}
+use Rattle.std.specs.Prelude.{Option}
 use mathlib.Core.List.{List}
 use Rattle.time.specs.Reply.{Carried, Reply, nothing}
 use Rattle.time.specs.Order.{Dues, when, due_or, first_due, refused}

@@ -2,7 +2,8 @@
 use Prim.Native.Nat.{ℕ}
 use mathlib.Core.Path.{◌≡◌, refl, ◌∙◌}
 use mathlib.Core.Bool.{true, false, not}
-use mathlib.Core.Option.{Option, none, some, or_else}
+use Rattle.std.specs.Prelude.{Option, None, Some}
+use Rattle.std.specs.Option.{option_or}
 use mathlib.Core.List.{List, [], ◌++◌}
 use Rattle.time.specs.Reply.{Carried, Reply, answer, refusal, nothing, hop, ◌then◌}
 use Rattle.time.specs.Order.{Dues, due_at, due_or, first_due, refused}
@@ -34,7 +35,7 @@ module _ (i : ℕ) where
   free : (h : Hop) → Inside i h → not (covers (cover h) i) ≡ false
   free h k = rw (covers_inside i (cover h) k)
 
-  none_due : (hs : List Hop) → Every (Inside i) hs → not_served_due hs i ≡ none
+  none_due : (hs : List Hop) → Every (Inside i) hs → not_served_due hs i ≡ None
   none_due hs k = first_none (λ c. not (covers c i)) (Inside i) free hs k
 
 -- ---- 13, 14 and 3 are due where the inverse of the target side is refused, and 3 where what comes out is not finite
@@ -45,46 +46,45 @@ then_refused (refusal k c) next = refl
 
 -- the last three, with what is due of the steps and of their result
 abbrev last_due : Dues → Reply Isometry → Option (ℕ × Carried)
-last_due dues r = due_or 13 (due_at dues 13) (due_or 14 (due_at dues 14) (due_or 3 (or_else (due_at dues 3) (overflow_due r)) none))
+last_due dues r = due_or 13 (due_at dues 13) (due_or 14 (due_at dues 14) (due_or 3 (option_or (due_at dues 3) (overflow_due r)) None))
 
 tested_due : (dues : Dues) (r : Reply Isometry) → refused r ≡ first_due dues inverse_order → refused (r then tested) ≡ last_due dues r
-unfolding or_else
 tested_due dues r h = by (due_at dues 13) (due_at dues 14) (due_at dues 3) r h
   where
-    by : (a b c : Option Carried) (r : Reply Isometry) → refused r ≡ due_or 13 a (due_or 14 b (due_or 3 c none))
-        → refused (r then tested) ≡ due_or 13 a (due_or 14 b (due_or 3 (or_else c (overflow_due r)) none))
-    by none none none (answer p) e = then_refused (finite p) pose ∙ finite_due p
-    by none none (some z) (answer p) e = absurd (none_some e)
-    by none (some y) c (answer p) e = absurd (none_some e)
-    by (some x) b c (answer p) e = absurd (none_some e)
-    by none none none (refusal k d) e = e
-    by none none (some z) (refusal k d) e = e
-    by none (some y) c (refusal k d) e = e
-    by (some x) b c (refusal k d) e = e
+    by : (a b c : Option Carried) (r : Reply Isometry) → refused r ≡ due_or 13 a (due_or 14 b (due_or 3 c None))
+        → refused (r then tested) ≡ due_or 13 a (due_or 14 b (due_or 3 (option_or c (overflow_due r)) None))
+    by None None None (answer p) e = then_refused (finite p) pose ∙ finite_due p
+    by None None (Some z) (answer p) e = absurd (none_some e)
+    by None (Some y) c (answer p) e = absurd (none_some e)
+    by (Some x) b c (answer p) e = absurd (none_some e)
+    by None None None (refusal k d) e = e
+    by None None (Some z) (refusal k d) e = e
+    by None (Some y) c (refusal k d) e = e
+    by (Some x) b c (refusal k d) e = e
 
 join_due : (x y : Option Isometry) → refused (combined x y) ≡ last_due (inverse_of (answer x)) (joined x y)
-join_due none none = tested_due [] (answer identity) refl
-join_due none (some y) = tested_due [] (answer y) refl
-join_due (some x) none = tested_due (inverse_due x) (inverse x) (inverse_first_due x)
-join_due (some x) (some y) =
+join_due None None = tested_due [] (answer identity) refl
+join_due None (Some y) = tested_due [] (answer y) refl
+join_due (Some x) None = tested_due (inverse_due x) (inverse x) (inverse_first_due x)
+join_due (Some x) (Some y) =
     tested_due (inverse_due x) (inverse x then λ back. answer (product back y)) (then_refused (inverse x) (λ back. product back y) ∙ inverse_first_due x)
 
 -- ---- two walks
 
 module _ (age : Option ℕ) (capacity i : ℕ) where
-  fails_due : (h : Hop) (hs : List Hop) → Fails age capacity i h hs → not_served_due hs i ≡ some (hop h.0 (range h.1.samples))
+  fails_due : (h : Hop) (hs : List Hop) → Fails age capacity i h hs → not_served_due hs i ≡ Some (hop h.0 (range h.1.samples))
   fails_due h hs k =
       first_placed (λ c. not (covers c i)) (Inside i) (free i) (λ x. Unit {0}) h hs k.placed (rw (outside_covers i (cover h) k.outside))
 
   -- without a path: 11, then 10, whatever is due of later numbers
   apart_due_lem : (a b : List Hop) (r : Reply Value) (rest : Option (ℕ × Carried)) → Walked age capacity i a b (λ x y. refusal 10 nothing) r
-      → refused r ≡ due_or 11 (not_served_due (a ++ b) i) (due_or 10 (some nothing) rest)
+      → refused r ≡ due_or 11 (not_served_due (a ++ b) i) (due_or 10 (Some nothing) rest)
   apart_due_lem a b r rest (arrives x y p q e k) = rw (e, none_due i (a ++ b) k)
   apart_due_lem a b r rest (halts h e k) = rw (e, fails_due h (a ++ b) k)
 
   -- on a path: 11, then those of the inverse and of what comes out
   along_due : (a b : List Hop) (r : Reply Value) → Walked age capacity i a b combined r
-      → refused r ≡ due_or 11 (not_served_due (a ++ b) i) (last_due (inverse_of (fold none a i)) (fold none a i then λ x. fold none b i then λ y. joined x y))
+      → refused r ≡ due_or 11 (not_served_due (a ++ b) i) (last_due (inverse_of (fold None a i)) (fold None a i then λ x. fold None b i then λ y. joined x y))
   along_due a b r (arrives x y p q e k) = rw (e, p, q, none_due i (a ++ b) k) (join_due x y)
   along_due a b r (halts h e k) = rw (e, fails_due h (a ++ b) k)
 
@@ -95,8 +95,8 @@ module _ (L : Limits) (t : Tree) (s : SoundTree L t) (f g i : ℕ) where
   unfolding lookup_due asked path
   known_due p q =
       let two : TwoKnown t f g = record { target = p; source = q } in
-      let a = fold none (hops t (side t f g)) i in
-      let b = fold none (hops t (side t g f)) i in
+      let a = fold None (hops t (side t f g)) i in
+      let b = fold None (hops t (side t g f)) i in
       both (connected t f g)
       (λ m.
       rw (p, q, m)

@@ -2,7 +2,8 @@
 use Prim.Native.Nat.{ℕ, ◌≤◌, ◌<◌}
 use mathlib.Core.Path.{◌≡◌, refl, subst}
 use mathlib.Core.Bool.{true, false, not}
-use mathlib.Core.Option.{none, some, or_else}
+use Rattle.std.specs.Prelude.{None, Some}
+use Rattle.std.specs.Option.{option_or}
 use mathlib.Core.List.{List, [], ◌∷◌}
 use native.Mathlib.Omega.{arith}
 use lib.Dec.{leb}
@@ -56,8 +57,7 @@ module _ (i : ℕ) (hs : List Hop) (within : InsideEvery i hs) where
       (λ e. rw e)
   not_late Empty k = absurd k
 
-  none_due : no_common_due hs ≡ none
-  unfolding or_else
+  none_due : no_common_due hs ≡ None
   none_due =
       rw (first_none is_empty (Inside i) (λ h k. ranged_filled _ (cover h) k) hs within)
       (first_none (too_late hs) (Inside i) (λ h k. not_late (cover h) k) hs within)
@@ -121,23 +121,21 @@ module _ (h : Hop) (hs : List Hop) (never : (i : ℕ) → InsideEvery i hs → �
         starts (Range start end) k = le-leb start s k
         starts Empty k = absurd k
 
-    latest_due : First → no_common_due hs ≡ some (hop h.0 (range h.1.samples))
-    unfolding or_else
+    latest_due : First → no_common_due hs ≡ Some (hop h.0 (range h.1.samples))
     latest_due p =
         rw (first_none is_empty (λ x. is_empty (cover x) ≡ false) (λ x k. k) hs (every p (λ c. is_empty c ≡ false) (λ c k. ranged_filled _ c k)))
         (first_placed (too_late hs) (λ x. Earlier (cover x)) (λ x k. earlier_free p (cover x) k) (λ x. NoLater (cover x)) h hs p (late_here p))
 
-  blamed_due : Blamed h hs → no_common_due hs ≡ some (hop h.0 (range h.1.samples))
-  unfolding or_else
+  blamed_due : Blamed h hs → no_common_due hs ≡ Some (hop h.0 (range h.1.samples))
   blamed_due (empty c p) = rw (first_placed is_empty (λ x. Ranged (λ start end. Unit {0}) (cover x)) (λ x k. ranged_filled _ (cover x) k) (λ x. Unit {0}) h hs p (rw c))
   blamed_due (latest s e q p) = latest_due s e q p
 
 -- ---- the reply
 
-pub path_due : (hs : List Hop) → order.refused (spans hs then meet) ≡ order.due_or 12 (no_common_due hs) none
+pub path_due : (hs : List Hop) → order.refused (spans hs then meet) ≡ order.due_or 12 (no_common_due hs) None
 path_due hs = go (spans hs then meet) (replied hs)
   where
-    go : (r : Reply Value) → Replied hs r → order.refused r ≡ order.due_or 12 (no_common_due hs) none
+    go : (r : Reply Value) → Replied hs r → order.refused r ≡ order.due_or 12 (no_common_due hs) None
     go r (all_static e k) = rw (e, none_due 0 hs (static_inside hs k 0))
     go r (greatest i e k) = rw (e, none_due i hs k.inside)
     go r (refused h e never b) = rw (e, blamed_due h hs never b)

@@ -3,7 +3,7 @@
 use Prim.Native.Nat.{ℕ, ◌≤◌}
 use mathlib.Core.Path.{◌≡◌, refl, sym, ap, subst, ◌∙◌}
 use mathlib.Core.Bool.{Bool, true, false}
-use mathlib.Core.Option.{none, some}
+use Rattle.std.specs.Prelude.{None, Some}
 use mathlib.Core.List.{List, [], ◌∷◌}
 use native.Mathlib.Omega.{arith}
 use lib.ListN.{length}
@@ -61,12 +61,12 @@ unfolding climb_end
 climb_end_member t f g = first_member (λ x. member x (chain t g)) f (ancestors t f)
 
 module _ (t : Tree) (gr : Grounded t) where
-  pub climb_end_root : (f g : ℕ) → get t f ≡ none → climb_end t f g ≡ f
+  pub climb_end_root : (f g : ℕ) → get t f ≡ None → climb_end t f g ≡ f
   unfolding climb_end
   climb_end_root f g q = rw (ancestors_none t gr f q)
 
   -- a frame that is not on the other's climb goes up
-  module _ (f g : ℕ) (e : Edge) (q : get t f ≡ some e) (out : member f (chain t g) ≡ false) where
+  module _ (f g : ℕ) (e : Edge) (q : get t f ≡ Some e) (out : member f (chain t g) ≡ false) where
     pub climb_end_up : climb_end t f g ≡ climb_end t e.parent g
     unfolding climb_end
     climb_end_up = ap (first_or_last (λ x. member x (chain t g)) f) (ancestors_some t gr f e q) ∙ rw out
@@ -94,7 +94,7 @@ module _ (t : Tree) (gr : Grounded t) where
       (λ m. m))
 
   -- a child is not on its parent's climb
-  up_apart : (f k : ℕ) (e : Edge) → get t f ≡ some e → member k (chain t e.parent) ≡ true → k ≡ f → ⊥
+  up_apart : (f k : ℕ) (e : Edge) → get t f ≡ Some e → member k (chain t e.parent) ≡ true → k ≡ f → ⊥
   up_apart f k e q m s =
       let d = ap length (ancestors_some t gr f e q) in
       let out : member f (chain t e.parent) ≡ false =
@@ -122,7 +122,7 @@ module _ (t : Tree) (gr : Grounded t) where
   unfolding side
   side_here f g m = rw m
 
-  side_root : (f g : ℕ) → get t f ≡ none → hops t (side t f g) ≡ []
+  side_root : (f g : ℕ) → get t f ≡ None → hops t (side t f g) ≡ []
   unfolding side
   side_root f g q = rw (ancestors_none t gr f q) (both (member f (chain t g)) (λ m. rw m) (λ m. rw (m, q)))
 
@@ -130,7 +130,7 @@ module _ (t : Tree) (gr : Grounded t) where
   unfolding connected
   connected_here f g m = rw m
 
-  connected_root : (f g : ℕ) → get t f ≡ none → member f (chain t g) ≡ false → connected t f g ≡ false
+  connected_root : (f g : ℕ) → get t f ≡ None → member f (chain t g) ≡ false → connected t f g ≡ false
   unfolding connected
   connected_root f g q m = rw (ancestors_none t gr f q, m)
 
@@ -148,7 +148,7 @@ module _ (t : Tree) (gr : Grounded t) where
       here : (f : ℕ) → member f (chain t g) ≡ true → connected t f g ≡ eqb (climb_end t f g) (climb_end t g f)
       here f m = connected_here f g m ∙ sym (eq-eqb _ _ (climb_end_here t f g m ∙ sym (climb_end_above f g m)))
 
-      apart : (f : ℕ) → get t f ≡ none → member f (chain t g) ≡ false → climb_end t f g ≡ climb_end t g f → ⊥
+      apart : (f : ℕ) → get t f ≡ None → member f (chain t g) ≡ false → climb_end t f g ≡ climb_end t g f → ⊥
       apart f q out e = false_true (sym out ∙ ap (λ (x : ℕ). member x (chain t g)) (sym (climb_end_root f g q) ∙ e) ∙ climb_end_member t g f)
 
   -- the hops up to where the climb ends are those of the path's side, or all up to the root

@@ -2,7 +2,7 @@
 use Prim.Native.Nat.{ℕ, zero, suc, ◌≤◌, ◌<◌}
 use mathlib.Core.Path.{◌≡◌, refl, sym, ap, ◌∙◌}
 use mathlib.Core.Bool.{true, false, not}
-use mathlib.Core.Option.{Option, none, some}
+use Rattle.std.specs.Prelude.{Option, None, Some}
 use mathlib.Core.List.{List, [], ◌∷◌}
 use native.Mathlib.Omega.{arith}
 use lib.ListN.{length}
@@ -15,13 +15,13 @@ use Rattle.registry.specs.Tree.{Edge, Tree, above, ancestors, member}
 use Rattle.registry.specs.Sound.{climb, NotAboveItself}
 
 -- an Option's two shapes, with the equation
-pub edge_or : {C : Type 0} (o : Option Edge) → (o ≡ none → C) → ((e : Edge) → o ≡ some e → C) → C
-edge_or none f g = f refl
-edge_or (some e) f g = g e refl
+pub edge_or : {C : Type 0} (o : Option Edge) → (o ≡ None → C) → ((e : Edge) → o ≡ Some e → C) → C
+edge_or None f g = f refl
+edge_or (Some e) f g = g e refl
 
 -- n steps lead from any frame to one that is no child
 abbrev pub Ends : ℕ → Tree → Type 0
-Ends n t = (f : ℕ) → get t (climb n t f) ≡ none
+Ends n t = (f : ℕ) → get t (climb n t f) ≡ None
 
 -- as many steps as there are rows do
 abbrev pub Grounded : Tree → Type 0
@@ -29,20 +29,20 @@ Grounded t = Ends (length t) t
 
 -- every parent ranks below its child
 abbrev pub Ranked : Tree → (ℕ → ℕ) → Type 0
-Ranked t r = (f : ℕ) (e : Edge) → get t f ≡ some e → r e.parent < r f
+Ranked t r = (f : ℕ) (e : Edge) → get t f ≡ Some e → r e.parent < r f
 
 -- ---- from the rule that can be computed to a rank
 
 module _ (t : Tree) where
   -- where the climb has ended, more steps find no more
-  pub above_more : (n f : ℕ) → get t (climb n t f) ≡ none → above (suc n) t f ≡ above n t f
+  pub above_more : (n f : ℕ) → get t (climb n t f) ≡ None → above (suc n) t f ≡ above n t f
   above_more zero f h = rw h
   above_more (suc n) f h =
       edge_or (get t f)
       (λ q. rw q)
       (λ e q. rw q (ap {B = List ℕ} (λ r. e.parent ∷ r) (above_more n e.parent (rw q at h))))
 
-  ends_step : (n f : ℕ) (e : Edge) → get t f ≡ some e → get t (climb n t f) ≡ none → length (above n t e.parent) < length (above n t f)
+  ends_step : (n f : ℕ) (e : Edge) → get t f ≡ Some e → get t (climb n t f) ≡ None → length (above n t e.parent) < length (above n t f)
   ends_step zero f e q h = absurd (none_some (sym h ∙ q))
   ends_step (suc n) f e q h =
       let stays : above (suc n) t e.parent ≡ above n t e.parent = above_more n e.parent (rw q at h) in
@@ -57,12 +57,12 @@ module _ (t : Tree) where
   grounded_ranked g = ends_ranked (length t) g
 
   -- who is no child climbs nowhere
-  pub climb_none : (n f : ℕ) → get t f ≡ none → climb n t f ≡ f
+  pub climb_none : (n f : ℕ) → get t f ≡ None → climb n t f ≡ f
   climb_none zero f h = refl
   climb_none (suc n) f h = rw h
 
   -- where the climb has ended, more steps lead no further
-  pub climb_more : (n m f : ℕ) → n ≤ m → get t (climb n t f) ≡ none → climb m t f ≡ climb n t f
+  pub climb_more : (n m f : ℕ) → n ≤ m → get t (climb n t f) ≡ None → climb m t f ≡ climb n t f
   climb_more zero m f l h = climb_none m f h
   climb_more (suc n) zero f l h = absurd (omega arith)
   climb_more (suc n) (suc m) f l h = edge_or (get t f) (λ q. rw q) (λ e q. rw q (climb_more n m e.parent (omega arith) (rw q at h)))
@@ -89,7 +89,7 @@ module _ (t : Tree) (r : ℕ → ℕ) (k : Ranked t r) where
 -- every frame of the list is a child
 abbrev Children : Tree → List ℕ → Type 0
 Children t [] = Unit {0}
-Children t (x ∷ xs) = ((e : Edge) × (get t x ≡ some e)) × Children t xs
+Children t (x ∷ xs) = ((e : Edge) × (get t x ≡ Some e)) × Children t xs
 
 -- none comes again
 abbrev Once : List ℕ → Type 0
@@ -99,7 +99,7 @@ Once (x ∷ xs) = (member x xs ≡ false) × Once xs
 abbrev others : ℕ → Tree → Tree
 others x t = keep (λ k. not (eqb k x)) t
 
-length_others : (x : ℕ) (t : Tree) (e : Edge) → get t x ≡ some e → length (others x t) < length t
+length_others : (x : ℕ) (t : Tree) (e : Edge) → get t x ≡ Some e → length (others x t) < length t
 length_others x [] e q = absurd (none_some q)
 length_others x (y ∷ t) e q =
     both (eqb x y.0)
@@ -127,8 +127,8 @@ pigeons t (x ∷ xs) o c =
     omega arith
 
 abbrev pass_from : Option Edge → ℕ → (ℕ → List ℕ) → List ℕ
-pass_from none f next = []
-pass_from (some e) f next = f ∷ next e.parent
+pass_from None f next = []
+pass_from (Some e) f next = f ∷ next e.parent
 
 -- the children that n steps from f leave behind
 abbrev passed : ℕ → Tree → ℕ → List ℕ
@@ -168,10 +168,10 @@ module _ (t : Tree) where
         passed_once a n e.parent,
       ))
 
-  above_ends : (n f : ℕ) → length (above (suc n) t f) ≤ n → get t (climb n t f) ≡ none
+  above_ends : (n f : ℕ) → length (above (suc n) t f) ≤ n → get t (climb n t f) ≡ None
   above_ends zero f h = edge_or (get t f) (λ q. q) (λ e q. absurd (too_long e q))
     where
-      too_long : (e : Edge) → get t f ≡ some e → ⊥
+      too_long : (e : Edge) → get t f ≡ Some e → ⊥
       too_long e q = let z : length (above 1 t f) ≡ 1 = rw q in omega arith
   above_ends (suc n) f h =
       edge_or (get t f)

@@ -2,7 +2,7 @@
 use Prim.Native.Nat.{ℕ, ◌-◌, ◌≤◌, ◌<◌}
 use mathlib.Core.Path.{◌≡◌, sym, ap, ◌∙◌}
 use mathlib.Core.Bool.{true}
-use mathlib.Core.Option.{some}
+use Rattle.std.specs.Prelude.{Some}
 use native.Mathlib.Omega.{arith}
 use lib.ListN.{length}
 use lib.Dec.{eqb}
@@ -23,7 +23,7 @@ module _ (t : Tree) (gr : Grounded t) where
 
   module _ (f g : ℕ) (ne : f ≡ g → ⊥) (l : length (ancestors t g) ≤ length (ancestors t f)) (deep : 0 < length (ancestors t f)) where
     -- it has a parent
-    up : {C : Type 0} → ((e : Edge) → get t f ≡ some e → C) → C
+    up : {C : Type 0} → ((e : Edge) → get t f ≡ Some e → C) → C
     up k = edge_or (get t f) (λ q. absurd (omega (arith, ap length (ancestors_none t gr f q)))) k
 
     depth_up : length (ancestors t (climb 1 t f)) ≡ length (ancestors t f) - 1

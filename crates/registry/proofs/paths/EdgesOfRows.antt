@@ -2,7 +2,7 @@
 use Prim.Native.Nat.{ℕ, zero, suc, ◌<◌}
 use mathlib.Core.Path.{◌≡◌, refl, sym, ap, subst, ◌∙◌}
 use mathlib.Core.Bool.{true, false}
-use mathlib.Core.Option.{none, some}
+use Rattle.std.specs.Prelude.{None, Some}
 use mathlib.Core.List.{List, [], ◌∷◌}
 use native.Mathlib.Omega.{arith}
 use lib.ListN.{length, get_or}
@@ -36,10 +36,10 @@ module _ (h : List ℕ) (rows : RisingRows h) (f : ℕ) (found : Found) (finds :
     pub row_within : HasRow r h
     row_within = used_row h r rows.within row.used
 
-    pub row_edge : (i : List ℕ) (p : List Float) → (let s = store_of h i p in get (tree_of s) f ≡ some (edge_at s r))
+    pub row_edge : (i : List ℕ) (p : List Float) → (let s = store_of h i p in get (tree_of s) f ≡ Some (edge_at s r))
     row_edge i p = get_found (store_of h i p) rows.rises f r row
 
-  pub row_none : (k : ℕ) → found ≡ Absent k → OfTree h (λ t. get t f ≡ none)
+  pub row_none : (k : ℕ) → found ≡ Absent k → OfTree h (λ t. get t f ≡ None)
   row_none k e i p = get_absent (store_of h i p) f k (subst (Finds h f) e finds)
 
 -- ---- parents

@@ -2,7 +2,7 @@
 use Prim.Native.Nat.{ℕ, zero, suc}
 use mathlib.Core.Path.{◌≡◌, refl, sym, ap, ◌∙◌, fun_ext}
 use mathlib.Core.Bool.{Bool, true, false, ◌||◌}
-use mathlib.Core.Option.{none, some}
+use Rattle.std.specs.Prelude.{None, Some}
 use mathlib.Core.List.{List, [], ◌∷◌, ◌++◌}
 use lib.ListN.{length}
 use lib.Dec.{eqb}
@@ -45,7 +45,7 @@ module _ (t u : Tree) (same : (f : ℕ) → ancestors u f ≡ ancestors t f) whe
 
 -- ---- an edge that keeps its parent
 
-above_held : (t : Tree) (c : ℕ) (e d : Edge) → get t c ≡ some e → d.parent ≡ e.parent → (n f : ℕ) → above n (put c d t) f ≡ above n t f
+above_held : (t : Tree) (c : ℕ) (e d : Edge) → get t c ≡ Some e → d.parent ≡ e.parent → (n f : ℕ) → above n (put c d t) f ≡ above n t f
 above_held t c e d q s zero f = refl
 above_held t c e d q s (suc n) f =
     both (eqb f c)
@@ -54,29 +54,29 @@ above_held t c e d q s (suc n) f =
     (ap {B = List ℕ} (λ x. x ∷ above n (put c d t) x) s ∙ ap {B = List ℕ} (λ rest. e.parent ∷ rest) (above_held t c e d q s n e.parent)))
     (λ w. rw (get_put_other c f d t (eqb-false f c w)) (ap (rise (get t f)) (fun_ext (λ p. above_held t c e d q s n p))))
 
-ancestors_held : (t : Tree) (c : ℕ) (e d : Edge) → Rising t → get t c ≡ some e → d.parent ≡ e.parent → (f : ℕ) → ancestors (put c d t) f ≡ ancestors t f
+ancestors_held : (t : Tree) (c : ℕ) (e d : Edge) → Rising t → get t c ≡ Some e → d.parent ≡ e.parent → (f : ℕ) → ancestors (put c d t) f ≡ ancestors t f
 ancestors_held t c e d r q s f = rw (length_put_held c d e t r q) (above_held t c e d q s (length t) f)
 
 -- ---- a new child
 
-module _ (t : Tree) (g : Grounded t) (c : ℕ) (d : Edge) (n : get t c ≡ none) (h : member c (chain t d.parent) ≡ false) where
+module _ (t : Tree) (g : Grounded t) (c : ℕ) (d : Edge) (n : get t c ≡ None) (h : member c (chain t d.parent) ≡ false) where
   abbrev new : Tree
   new = put c d t
 
   grounded_new : Grounded new
   grounded_new = ranked_grounded new _ (ranked_new t _ (grounded_ranked t g) c d n h)
 
-  step_new : (f : ℕ) (e : Edge) → get t f ≡ some e → ancestors new f ≡ e.parent ∷ ancestors new e.parent
+  step_new : (f : ℕ) (e : Edge) → get t f ≡ Some e → ancestors new f ≡ e.parent ∷ ancestors new e.parent
   step_new f e q = ancestors_some new grounded_new f e (get_put_other c f d t (λ s. none_some (sym n ∙ ap (get t) (sym s) ∙ q)) ∙ q)
 
   -- a frame that is no child stands on a climb where it stands on the climb from any frame of it
   through : (y f : ℕ) → member y (chain t f) ≡ true → member c (chain t f) ≡ member c (chain t y)
   through y = climb_ind t _ (grounded_ranked t g) (λ f. member y (chain t f) ≡ true → member c (chain t f) ≡ member c (chain t y)) base step
     where
-      base : (f : ℕ) → get t f ≡ none → member y (chain t f) ≡ true → member c (chain t f) ≡ member c (chain t y)
+      base : (f : ℕ) → get t f ≡ None → member y (chain t f) ≡ true → member c (chain t f) ≡ member c (chain t y)
       base f q m = both (eqb y f) (λ s. ap (λ (x : ℕ). member c (chain t x)) (sym (eqb-true y f s))) (λ s. absurd (false_true (rw (s, ancestors_none t g f q) at m)))
 
-      step : (f : ℕ) (e : Edge) → get t f ≡ some e → (member y (chain t e.parent) ≡ true → member c (chain t e.parent) ≡ member c (chain t y))
+      step : (f : ℕ) (e : Edge) → get t f ≡ Some e → (member y (chain t e.parent) ≡ true → member c (chain t e.parent) ≡ member c (chain t y))
           → member y (chain t f) ≡ true → member c (chain t f) ≡ member c (chain t y)
       step f e q ih m =
           both (eqb y f)
@@ -87,12 +87,12 @@ module _ (t : Tree) (g : Grounded t) (c : ℕ) (d : Edge) (n : get t c ≡ none)
   aside : (f : ℕ) → member c (chain t f) ≡ false → chain new f ≡ chain t f
   aside = climb_ind t _ (grounded_ranked t g) (λ f. member c (chain t f) ≡ false → chain new f ≡ chain t f) base step
     where
-      base : (f : ℕ) → get t f ≡ none → member c (chain t f) ≡ false → chain new f ≡ chain t f
+      base : (f : ℕ) → get t f ≡ None → member c (chain t f) ≡ false → chain new f ≡ chain t f
       base f q m =
           let other : f ≡ c → ⊥ = λ s. false_true (sym m ∙ rw (eq-eqb c f (sym s))) in
           ap {B = List ℕ} (λ r. f ∷ r) (ancestors_none new grounded_new f (get_put_other c f d t other ∙ q) ∙ sym (ancestors_none t g f q))
 
-      step : (f : ℕ) (e : Edge) → get t f ≡ some e → (member c (chain t e.parent) ≡ false → chain new e.parent ≡ chain t e.parent)
+      step : (f : ℕ) (e : Edge) → get t f ≡ Some e → (member c (chain t e.parent) ≡ false → chain new e.parent ≡ chain t e.parent)
           → member c (chain t f) ≡ false → chain new f ≡ chain t f
       step f e q ih m =
           let up : member c (chain t e.parent) ≡ false = rw (ne_eqb c f (λ z. none_some (sym n ∙ ap (get t) z ∙ q)), ancestors_some t g f e q) at m in
@@ -102,7 +102,7 @@ module _ (t : Tree) (g : Grounded t) (c : ℕ) (d : Edge) (n : get t c ≡ none)
   under : (f : ℕ) → member c (chain t f) ≡ true → chain new f ≡ chain t f ++ chain t d.parent
   under = climb_ind t _ (grounded_ranked t g) (λ f. member c (chain t f) ≡ true → chain new f ≡ chain t f ++ chain t d.parent) base step
     where
-      base : (f : ℕ) → get t f ≡ none → member c (chain t f) ≡ true → chain new f ≡ chain t f ++ chain t d.parent
+      base : (f : ℕ) → get t f ≡ None → member c (chain t f) ≡ true → chain new f ≡ chain t f ++ chain t d.parent
       base f q m =
           both (eqb c f)
           (λ s.
@@ -111,7 +111,7 @@ module _ (t : Tree) (g : Grounded t) (c : ℕ) (d : Edge) (n : get t c ≡ none)
           (ap {B = List ℕ} (λ r. c ∷ r) (ancestors_some new grounded_new c d (get_put_same c d t) ∙ aside d.parent h)))
           (λ s. absurd (false_true (rw (s, ancestors_none t g f q) at m)))
 
-      step : (f : ℕ) (e : Edge) → get t f ≡ some e → (member c (chain t e.parent) ≡ true → chain new e.parent ≡ chain t e.parent ++ chain t d.parent)
+      step : (f : ℕ) (e : Edge) → get t f ≡ Some e → (member c (chain t e.parent) ≡ true → chain new e.parent ≡ chain t e.parent ++ chain t d.parent)
           → member c (chain t f) ≡ true → chain new f ≡ chain t f ++ chain t d.parent
       step f e q ih m =
           let up : member c (chain t e.parent) ≡ true = rw (ne_eqb c f (λ z. none_some (sym n ∙ ap (get t) z ∙ q)), ancestors_some t g f e q) at m in
@@ -170,12 +170,12 @@ pub record Kept (t u : Tree) (f g : ℕ) : Type 0 where
   pub connects : connected u f g ≡ true
   pub frames : side u f g ≡ side t f g
 
-pub kept_held : (t : Tree) (c : ℕ) (e d : Edge) → Rising t → get t c ≡ some e → d.parent ≡ e.parent
+pub kept_held : (t : Tree) (c : ℕ) (e d : Edge) → Rising t → get t c ≡ Some e → d.parent ≡ e.parent
     → (x y : ℕ) → connected t x y ≡ true → Kept t (put c d t) x y
 kept_held t c e d r q p x y m =
     let alike = ancestors_held t c e d r q p in
     record { connects = connected_alike t (put c d t) alike x y ∙ m; frames = side_alike t (put c d t) alike x y }
 
-pub kept_new : (t : Tree) (c : ℕ) (d : Edge) → Grounded t → get t c ≡ none → member c (chain t d.parent) ≡ false
+pub kept_new : (t : Tree) (c : ℕ) (d : Edge) → Grounded t → get t c ≡ None → member c (chain t d.parent) ≡ false
     → (x y : ℕ) → connected t x y ≡ true → Kept t (put c d t) x y
 kept_new t c d g n h x y m = record { connects = connected_new t g c d n h x y m; frames = side_new t g c d n h x y m }

@@ -2,7 +2,7 @@
 use Prim.Native.Nat.{ℕ}
 use mathlib.Core.Path.{◌≡◌, refl, sym, ap, ◌∙◌}
 use mathlib.Core.Bool.{Bool, true, false, cond, not}
-use mathlib.Core.Option.{Option, none, some}
+use Rattle.std.specs.Prelude.{Option, None, Some}
 use mathlib.Core.List.{List, [], ◌∷◌, ◌++◌}
 use lib.Dec.{eqb}
 use borrow.Author.Tests.{ne_eqb, eqb-true, eqb-false}
@@ -35,7 +35,7 @@ every_back P [] ys h = h
 every_back P (x ∷ xs) ys h = every_back P xs ys h.1
 
 -- a child that is no hop's child is none of the frames
-not_held : (t : Tree) (c : ℕ) (e : Edge) → get t c ≡ some e → (xs : List ℕ) → Every (λ h. (h.0 ≡ c → ⊥)) (hops t xs) → member c xs ≡ false
+not_held : (t : Tree) (c : ℕ) (e : Edge) → get t c ≡ Some e → (xs : List ℕ) → Every (λ h. (h.0 ≡ c → ⊥)) (hops t xs) → member c xs ≡ false
 not_held t c e q [] k = refl
 not_held t c e q (x ∷ xs) k =
     both (eqb c x)
@@ -45,18 +45,18 @@ not_held t c e q (x ∷ xs) k =
     (λ s. rw s (not_held t c e q xs (rest (get t x) k)))
   where
     rest : (o : Option Edge) → Every (λ h. (h.0 ≡ c → ⊥)) (hop_then x o (hops t xs)) → Every (λ h. (h.0 ≡ c → ⊥)) (hops t xs)
-    rest none k = k
-    rest (some e) k = k.1
+    rest None k = k
+    rest (Some e) k = k.1
 
 -- who is no child stands on no side
-not_new : (t : Tree) (g : Grounded t) (c : ℕ) → get t c ≡ none → (p : ℕ → Bool) (f : ℕ) → any p (chain t f) ≡ true
+not_new : (t : Tree) (g : Grounded t) (c : ℕ) → get t c ≡ None → (p : ℕ → Bool) (f : ℕ) → any p (chain t f) ≡ true
     → member c (until p (chain t f)) ≡ false
 not_new t g c n p = climb_ind t _ (grounded_ranked t g) (λ f. any p (chain t f) ≡ true → member c (until p (chain t f)) ≡ false) base step
   where
-    base : (f : ℕ) → get t f ≡ none → any p (chain t f) ≡ true → member c (until p (chain t f)) ≡ false
+    base : (f : ℕ) → get t f ≡ None → any p (chain t f) ≡ true → member c (until p (chain t f)) ≡ false
     base f q m = both (p f) (λ s. rw s) (λ s. absurd (false_true (rw (s, ancestors_none t g f q) at m)))
 
-    step : (f : ℕ) (e : Edge) → get t f ≡ some e → (any p (chain t e.parent) ≡ true → member c (until p (chain t e.parent)) ≡ false)
+    step : (f : ℕ) (e : Edge) → get t f ≡ Some e → (any p (chain t e.parent) ≡ true → member c (until p (chain t e.parent)) ≡ false)
         → any p (chain t f) ≡ true → member c (until p (chain t f)) ≡ false
     step f e q ih m =
         both (p f)
@@ -103,7 +103,7 @@ module _ (t : Tree) (c : ℕ) (d : Edge) (f g : ℕ) (target : known (put c d t)
 -- ---- an edge that keeps its parent, and a new one
 
 module _ (t : Tree) (c : ℕ) (d : Edge) (f g : ℕ) (m : connected t f g ≡ true) where
-  answers_held : (e : Edge) → Rising t → get t c ≡ some e → d.parent ≡ e.parent → OffPath t c f g → SameAnswers t (put c d t) f g
+  answers_held : (e : Edge) → Rising t → get t c ≡ Some e → d.parent ≡ e.parent → OffPath t c f g → SameAnswers t (put c d t) f g
   unfolding path
   answers_held e r q p off =
       let kept = kept_held t c e d r q p in
@@ -111,7 +111,7 @@ module _ (t : Tree) (c : ℕ) (d : Edge) (f g : ℕ) (m : connected t f g ≡ tr
       (not_held t c e q (side t f g) (every_front (λ h. (h.0 ≡ c → ⊥)) (hops t (side t f g)) (hops t (side t g f)) off))
       (not_held t c e q (side t g f) (every_back (λ h. (h.0 ≡ c → ⊥)) (hops t (side t f g)) (hops t (side t g f)) off))
 
-  answers_new : TwoKnown t f g → Grounded t → get t c ≡ none → member c (chain t d.parent) ≡ false → SameAnswers t (put c d t) f g
+  answers_new : TwoKnown t f g → Grounded t → get t c ≡ None → member c (chain t d.parent) ≡ false → SameAnswers t (put c d t) f g
   unfolding side connected
   answers_new k gr n h =
       let kept = kept_new t c d gr n h in
@@ -128,10 +128,10 @@ path_law L t u a r n e f g k m off =
     rw acc.left (by (get t a.child) refl acc)
   where
     by : (held : Option Edge) → get t a.child ≡ held → Accepted L t a held u → SameAnswers t (put a.child (updated_edge L.age a held) t) f g
-    by none q acc =
-        answers_new t a.child (updated_edge L.age a none) f g m k (circle_grounded t ((rising_is t).0 r) n) q
+    by None q acc =
+        answers_new t a.child (updated_edge L.age a None) f g m k (circle_grounded t ((rising_is t).0 r) n) q
         (rw (ne_eqb a.child a.parent (λ s. eqb-false a.parent a.child acc.apart (sym s))) acc.no_circle)
-    by (some h) q acc = answers_held t a.child (updated_edge L.age a (some h)) f g m h ((rising_is t).0 r) q refl off
+    by (Some h) q acc = answers_held t a.child (updated_edge L.age a (Some h)) f g m h ((rising_is t).0 r) q refl off
 
 pub path_law_wipe : PathLawWipe
 path_law_wipe t u c i r e f g m off =

@@ -2,7 +2,7 @@
 use Prim.Native.Nat.{ℕ, zero, suc}
 use mathlib.Core.Path.{◌≡◌, refl, sym, ap, subst⁻¹, ◌∙◌}
 use mathlib.Core.Bool.{Bool, true, false, cond, not}
-use mathlib.Core.Option.{none, some}
+use Rattle.std.specs.Prelude.{None, Some}
 use mathlib.Core.List.{List, [], ◌∷◌, ◌++◌}
 use lib.ListN.{length}
 use lib.Dec.{eqb}
@@ -43,7 +43,7 @@ connected_sym t f g h =
     let found = any_elim (λ x. member x (chain t g)) (chain t f) h in
     any_intro (λ x. member x (chain t f)) (chain t g) found.0 found.2 found.1
 
-parent_in : (t : Tree) (x : ℕ) (e : Edge) → get t x ≡ some e → is_parent e.parent t ≡ true
+parent_in : (t : Tree) (x : ℕ) (e : Edge) → get t x ≡ Some e → is_parent e.parent t ≡ true
 parent_in [] x e q = absurd (none_some q)
 parent_in (y ∷ t) x e q =
     both (eqb x y.0)
@@ -60,7 +60,7 @@ above_parent t (suc n) g f h =
     (λ s. ap (λ (x : ℕ). is_parent x t) (eqb-true f e.parent s) ∙ parent_in t g e q)
     (λ s. above_parent t n e.parent f (rw s at (rw q at h))))
 
-above_none : (t : Tree) (n f : ℕ) → get t f ≡ none → above n t f ≡ []
+above_none : (t : Tree) (n f : ℕ) → get t f ≡ None → above n t f ≡ []
 above_none t zero f q = refl
 above_none t (suc n) f q = rw q
 
@@ -75,7 +75,7 @@ connected_known t f g d m =
     rw q (above_parent t (length t) g f (rw (ne_eqb f g d) at (ap (λ (x : ℕ). member x (chain t g)) (sym here) ∙ found.2))))
     (λ e q. rw q refl)
   where
-    only : (y : ℕ) → get t f ≡ none → member y (chain t f) ≡ true → y ≡ f
+    only : (y : ℕ) → get t f ≡ None → member y (chain t f) ≡ true → y ≡ f
     only y q i = both (eqb y f) (λ s. eqb-true y f s) (λ s. absurd (false_true (rw (above_none t (length t) f q) at (rw s at i))))
 
 pub connected_are_known : ConnectedAreKnown

@@ -2,7 +2,7 @@
 use Prim.Native.Nat.{ℕ, ◌<◌}
 use mathlib.Core.Path.{◌≡◌, refl, ap, ◌∙◌}
 use mathlib.Core.Bool.{true}
-use mathlib.Core.Option.{none, some}
+use Rattle.std.specs.Prelude.{None, Some}
 use mathlib.Core.List.{List, [], ◌∷◌}
 use lib.ListN.{length}
 use lib.Dec.{eqb}
@@ -22,19 +22,19 @@ use Rattle.registry.proofs.layout.TreeRows.{tree_rises}
 
 -- f is a child of p
 abbrev pub ChildOf : Tree → ℕ → ℕ → Type 0
-ChildOf t f p = (e : Edge) × (get t f ≡ some e) × (e.parent ≡ p)
+ChildOf t f p = (e : Edge) × (get t f ≡ Some e) × (e.parent ≡ p)
 
 pub hops_end : (t : Tree) (f : ℕ) → hops_to t f f ≡ []
 hops_end t f = rw (eq-eqb f f refl)
 
 module _ (t : Tree) (gr : Grounded t) where
-  pub chain_up : (f : ℕ) (e : Edge) → get t f ≡ some e → chain t f ≡ f ∷ chain t e.parent
+  pub chain_up : (f : ℕ) (e : Edge) → get t f ≡ Some e → chain t f ≡ f ∷ chain t e.parent
   chain_up f e q = ap {B = List ℕ} (λ r. f ∷ r) (ancestors_some t gr f e q)
 
-  pub hops_up : (f top : ℕ) (e : Edge) → get t f ≡ some e → (top ≡ f → ⊥) → hops_to t f top ≡ (f, e) ∷ hops_to t e.parent top
+  pub hops_up : (f top : ℕ) (e : Edge) → get t f ≡ Some e → (top ≡ f → ⊥) → hops_to t f top ≡ (f, e) ∷ hops_to t e.parent top
   hops_up f top e q ne = ap (λ (xs : List ℕ). hops t (until (eqb top) xs)) (chain_up f e q) ∙ rw (ne_eqb top f ne, q)
 
-  pub hops_root : (f top : ℕ) → get t f ≡ none → hops_to t f top ≡ []
+  pub hops_root : (f top : ℕ) → get t f ≡ None → hops_to t f top ≡ []
   hops_root f top q =
       ap (λ (xs : List ℕ). hops t (until (eqb top) (f ∷ xs))) (ancestors_none t gr f q)
       ∙ both (eqb top f) (λ e. rw e) (λ e. rw (e, q))

@@ -2,7 +2,7 @@
 use Prim.Native.Nat.{ℕ, ◌^◌, ◌<◌}
 use mathlib.Core.Path.{◌≡◌, ◌∙◌}
 use mathlib.Core.Bool.{◌&&◌}
-use mathlib.Core.Option.{some}
+use Rattle.std.specs.Prelude.{Some}
 use lib.Dec.{ltb}
 use borrow.Author.Tests.{ltb-true}
 use Rattle.buffer.specs.Map.{get}
@@ -22,7 +22,7 @@ use Rattle.registry.proofs.soundness.Rules.{sound_is}
 use Rattle.registry.proofs.soundness.SoundStore.{sound_rows, sound_part, sound_row_words}
 
 module _ (s : Store) (ok : SoundStore s) where
-  frames_fit_lem : OfTree s.head (λ t. (f : ℕ) (e : Edge) → get t f ≡ some e → f < 2 ^ 32)
+  frames_fit_lem : OfTree s.head (λ t. (f : ℕ) (e : Edge) → get t f ≡ Some e → f < 2 ^ 32)
   frames_fit_lem i p f e q =
       let k = (sound_is s).0 ok.rules in
       let row = row_of (store_of s.head i p) f e q in

@@ -2,7 +2,7 @@
 use Prim.Native.Nat.{ℕ, zero, suc, ◌+◌, ◌-◌, ◌<◌}
 use mathlib.Core.Path.{◌≡◌, sym, ap, ◌∙◌}
 use mathlib.Core.Bool.{Bool, true, cond}
-use mathlib.Core.Option.{Option, none, some}
+use Rattle.std.specs.Prelude.{Option, None, Some}
 use mathlib.Core.List.{List, [], ◌∷◌}
 use native.Mathlib.Nat.{add-zero, zero-add}
 use native.Mathlib.Omega.{arith}
@@ -27,16 +27,16 @@ use Rattle.registry.proofs.paths.Climbing.{edge_or}
 -- ---- one step, by the parent that was read
 
 abbrev rise_by : Option ℕ → (ℕ → List ℕ) → List ℕ
-rise_by none next = []
-rise_by (some p) next = p ∷ next p
+rise_by None next = []
+rise_by (Some p) next = p ∷ next p
 
 abbrev up_by : Option ℕ → ℕ → ℕ
-up_by none f = f
-up_by (some p) f = p
+up_by None f = f
+up_by (Some p) f = p
 
 abbrev known_by : Option ℕ → Bool → Bool
-known_by none parent = parent
-known_by (some p) parent = true
+known_by None parent = parent
+known_by (Some p) parent = true
 
 -- of a frame of which r was read, which is v
 module _ (h : List ℕ) (f : ℕ) {r v : Parent} (told : r ≡ v) (reads : OfTree h (λ t. parent_read r ≡ edge_parent t f)) where

@@ -2,7 +2,7 @@
 use Prim.Native.Nat.{ℕ}
 use mathlib.Core.Path.{◌≡◌, refl, sym, ◌∙◌}
 use mathlib.Core.Bool.{cond, ◌&&◌}
-use mathlib.Core.Option.{Option, none, some}
+use Rattle.std.specs.Prelude.{Option, None, Some}
 use native.Mathlib.Omega.{arith}
 use lib.Dec.{ltb}
 use borrow.Author.Tests.{le-leb, lt-leb, ltb-true, ltb-false}
@@ -20,14 +20,14 @@ use Rattle.registry.specs.AsMap.{moving}
 pub record Wiped (t : Tree) (f i : ℕ) (u : Tree) : Type 0 where
   pub edge : Edge
   pub after : Edge
-  pub held : get t f ≡ some edge
+  pub held : get t f ≡ Some edge
   pub left : u ≡ put f after t
   pub parent : after.parent ≡ edge.parent
   pub kind : after.kind ≡ edge.kind
   pub samples : after.samples ≡ remove_before edge.kind i edge.samples
-  pub poses : (j : ℕ) → get after.samples j ≡ cond (moving (some edge.kind) && ltb j i) none (get edge.samples j)
+  pub poses : (j : ℕ) → get after.samples j ≡ cond (moving (Some edge.kind) && ltb j i) None (get edge.samples j)
 
-kept_poses : (k : Kind) (i : ℕ) (m : Samples) (j : ℕ) → get (remove_before k i m) j ≡ cond (moving (some k) && ltb j i) none (get m j)
+kept_poses : (k : Kind) (i : ℕ) (m : Samples) (j : ℕ) → get (remove_before k i m) j ≡ cond (moving (Some k) && ltb j i) None (get m j)
 kept_poses Static i m j = refl
 kept_poses Dynamic i m j =
     get_remove_before_lem i m j
@@ -40,8 +40,8 @@ unfolding wipe
 wipe_accepted t f i u e = by (get t f) refl e
   where
     by : (o : Option Edge) → get t f ≡ o → wiped f i t o ≡ answer u → Wiped t f i u
-    by none q z = absurd (let w : ◌≡◌ {A = ℕ} 0 1 = cc z in omega arith)
-    by (some h) q z = record {
+    by None q z = absurd (let w : ◌≡◌ {A = ℕ} 0 1 = cc z in omega arith)
+    by (Some h) q z = record {
       edge = h;
       after = _;
       held = q;

@@ -3,7 +3,7 @@ use Prim.Native.Nat.{ℕ, ◌^◌, ◌≤◌, ◌<◌}
 use mathlib.Core.Path.{◌≡◌, refl}
 use mathlib.Core.Logic.{◌⊎◌, inl, inr}
 use mathlib.Core.Bool.{true}
-use mathlib.Core.Option.{Option, none, some}
+use Rattle.std.specs.Prelude.{Option, None, Some}
 use mathlib.Core.List.{[]}
 use lib.ListN.{length}
 use borrow.Author.Tests.{lt-ltb, le-leb, leb-false}
@@ -50,8 +50,8 @@ module _ (age : Option ℕ) (capacity : ℕ) where
 
 module _ (L : Limits) (t : Tree) (a : Addition) (c : a.child < 2 ^ 32) (p : a.parent < 2 ^ 32) (s : SoundTree L t) where
   updated_keeps : (u : Tree) (held : Option Edge) → get t a.child ≡ held → Accepted L t a held u → SoundTree L (put a.child (updated_edge L.age a held) t)
-  updated_keeps u none q acc =
-      sound_put_new L t s a.child (updated_edge L.age a none)
+  updated_keeps u None q acc =
+      sound_put_new L t s a.child (updated_edge L.age a None)
       (record {
         frames = and_both _ _ (lt-ltb a.child (2 ^ 32) c) (lt-ltb a.parent (2 ^ 32) p);
         parents = rw acc.apart;
@@ -59,10 +59,10 @@ module _ (L : Limits) (t : Tree) (a : Addition) (c : a.child < 2 ^ 32) (p : a.pa
         poses = all_insert (λ x. passes (validate x.1)) L.age (instant_of a.stamp) a.pose [] acc.valid refl;
       })
       q (leb-false L.rows (length t) acc.room) acc.no_circle
-  updated_keeps u (some e) q acc =
+  updated_keeps u (Some e) q acc =
       let old = sound_edge L t s a.child e q in
       let kind = acc.suits.1 in
-      sound_put_held L t s a.child (updated_edge L.age a (some e))
+      sound_put_held L t s a.child (updated_edge L.age a (Some e))
       (record {
         frames = old.frames;
         parents = old.parents;

@@ -2,7 +2,7 @@
 use Prim.Native.Nat.{ℕ, zero, suc, ◌+◌, ◌*◌, ◌≤◌, ◌<◌}
 use mathlib.Core.Path.{◌≡◌, refl, sym, ap, ◌∙◌, subst}
 use mathlib.Core.Bool.{Bool, true, false, ◌||◌}
-use mathlib.Core.Option.{none, some}
+use Rattle.std.specs.Prelude.{None, Some}
 use mathlib.Core.List.{List}
 use native.Mathlib.Nat.{zero-add, suc-add}
 use native.Mathlib.Omega.{arith}
@@ -28,7 +28,7 @@ use Rattle.registry.proofs.layout.TreeRows.{length_tree, tree_rises, get_found, 
 -- ---- climbs
 
 module _ (t : Tree) where
-  climb_up : (n f : ℕ) (e : Edge) → get t f ≡ some e → climb (suc n) t f ≡ climb n t e.parent
+  climb_up : (n f : ℕ) (e : Edge) → get t f ≡ Some e → climb (suc n) t f ≡ climb n t e.parent
   climb_up n f e q = rw q
 
   climb_add : (m k f : ℕ) → climb k t (climb m t f) ≡ climb (m + k) t f
@@ -39,11 +39,11 @@ module _ (t : Tree) where
       (λ e q. ap (climb k t) (climb_up m f e q) ∙ climb_add m k e.parent ∙ sym (climb_up (m + k) f e q) ∙ ap (λ (n : ℕ). climb n t f) (sym (suc-add m k)))
 
   -- a climb that has ended stays
-  climb_past : (m k f : ℕ) → m ≤ k → get t (climb m t f) ≡ none → get t (climb k t f) ≡ none
+  climb_past : (m k f : ℕ) → m ≤ k → get t (climb m t f) ≡ None → get t (climb k t f) ≡ None
   climb_past m k f l e = ap (get t) (climb_more t m k f l e) ∙ e
 
   -- who is above p has a parent above p
-  above_parent : (k p f : ℕ) (e : Edge) → get t f ≡ some e → member f (above k t p) ≡ true → member e.parent (above (suc k) t p) ≡ true
+  above_parent : (k p f : ℕ) (e : Edge) → get t f ≡ Some e → member f (above k t p) ≡ true → member e.parent (above (suc k) t p) ≡ true
   above_parent zero p f e q h = absurd (false_true h)
   above_parent (suc k) p f e q h =
       edge_or (get t p)
@@ -51,7 +51,7 @@ module _ (t : Tree) where
       (λ d z.
       rw z
       (both (eqb f d.parent)
-      (λ s. let w : get t d.parent ≡ some e = ap (get t) (sym (eqb-true f d.parent s)) ∙ q in
+      (λ s. let w : get t d.parent ≡ Some e = ap (get t) (sym (eqb-true f d.parent s)) ∙ q in
       rw (w, eq-eqb e.parent e.parent refl) (or_true (eqb e.parent d.parent)))
       (λ s. or_right (eqb e.parent d.parent) _ (above_parent k d.parent f e q (rw s at (rw z at h))))))
     where
@@ -64,16 +64,16 @@ module _ (t : Tree) where
       or_right false b h = h
 
   -- who is above itself has a parent above itself
-  again : (k f : ℕ) (e : Edge) → get t f ≡ some e → member f (above (suc k) t f) ≡ true → member e.parent (above (suc k) t e.parent) ≡ true
+  again : (k f : ℕ) (e : Edge) → get t f ≡ Some e → member f (above (suc k) t f) ≡ true → member e.parent (above (suc k) t e.parent) ≡ true
   again k f e q m =
       both (eqb f e.parent)
       (λ s.
-      let w : get t e.parent ≡ some e = ap (get t) (sym (eqb-true f e.parent s)) ∙ q in
+      let w : get t e.parent ≡ Some e = ap (get t) (sym (eqb-true f e.parent s)) ∙ q in
       rw (w, eq-eqb e.parent e.parent refl))
       (λ s. above_parent k e.parent f e q (rw s at (rw q at m)))
 
   -- whose climb ends is not above itself
-  ends_apart : (n f : ℕ) → get t (climb n t f) ≡ none → (k : ℕ) → member f (above k t f) ≡ false
+  ends_apart : (n f : ℕ) → get t (climb n t f) ≡ None → (k : ℕ) → member f (above k t f) ≡ false
   ends_apart n f h zero = refl
   ends_apart zero f h (suc k) = rw h
   ends_apart (suc n) f h (suc k) =
@@ -194,7 +194,7 @@ module _ (h : List ℕ) (rows : RisingRows h) (m : ℕ) (l : List ℕ) (a : Clim
   ended_apart : all (leb (length l)) l ≡ true → NotAboveItself t
   ended_apart e k f = edge_or (get t f) (λ q. ends_apart t 0 f q k) child
     where
-      child : (d : Edge) → get t f ≡ some d → member f (above k t f) ≡ false
+      child : (d : Edge) → get t f ≡ Some d → member f (above k t f) ≡ false
       child d q =
           let found = row_of (store_of h i p) f d q in
           let r : ℕ = found.0 in
@@ -211,8 +211,8 @@ module _ (h : List ℕ) (rows : RisingRows h) (m : ℕ) (l : List ℕ) (a : Clim
       (λ q. q)
       (λ q.
       let v : x < used_in (head_of h) = omega (arith, leb-false (length l) x q, a.size) in
-      let at_row : get t (child_at h x) ≡ some (row_at (store_of h i p) x).1 = get_found (store_of h i p) rows.rises (child_at h x) x (record { used = v; child = refl }) in
-      let ended : get t (climb up.steps t (child_at h r)) ≡ none =
+      let at_row : get t (child_at h x) ≡ Some (row_at (store_of h i p) x).1 = get_found (store_of h i p) rows.rises (child_at h x) x (record { used = v; child = refl }) in
+      let ended : get t (climb up.steps t (child_at h r)) ≡ None =
       climb_past t (length t) up.steps (child_at h r) (omega (arith, length_tree (store_of h i p), up.enough)) (circle_grounded t rises e (child_at h r)) in
       absurd (none_some (sym ended ∙ ap (get t) (sym (up.row v i p)) ∙ at_row)))
 

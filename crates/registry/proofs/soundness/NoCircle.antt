@@ -2,7 +2,7 @@
 use Prim.Native.Nat.{ℕ, ◌≤◌}
 use mathlib.Core.Path.{◌≡◌, refl}
 use mathlib.Core.Bool.{Bool, true}
-use mathlib.Core.Option.{Option, none, some}
+use Rattle.std.specs.Prelude.{Option, None, Some}
 use lib.ListN.{length}
 use Rattle.buffer.specs.Map.{all, get}
 use Rattle.buffer.proofs.Cases.{bool_ext}
@@ -14,9 +14,9 @@ use Rattle.registry.specs.Sound.{climb, sound}
 use Rattle.registry.specs.Laws.{NoCircle}
 use Rattle.registry.proofs.paths.Climbing.{edge_or, Ends, Grounded, ends_ranked, climb_none, climb_more, ranked_apart, ranked_grounded, apart_grounded}
 
-is_new : (o : Option Edge) → is_absent o ≡ true → o ≡ none
-is_new none h = refl
-is_new (some e) h = cc
+is_new : (o : Option Edge) → is_absent o ≡ true → o ≡ None
+is_new None h = refl
+is_new (Some e) h = cc
 
 module _ (t : Tree) (r : Rising t) where
   -- the climb of n steps from the child of a row ends

@@ -2,7 +2,7 @@
 use Prim.Native.Nat.{ℕ, ◌^◌, ◌≤◌, ◌<◌}
 use mathlib.Core.Path.{◌≡◌, sym}
 use mathlib.Core.Bool.{Bool, true, false, not, ◌&&◌}
-use mathlib.Core.Option.{Option, none, some}
+use Rattle.std.specs.Prelude.{Option, None, Some}
 use native.Mathlib.Omega.{arith}
 use lib.ListN.{length}
 use lib.Dec.{eqb, ltb, leb}
@@ -51,10 +51,10 @@ module _ (L : Limits) (t : Tree) (s : SoundTree L t) where
   pub tree_grounded : Grounded t
   tree_grounded = circle_grounded t tree_rises s.circles
 
-  at_child : (test : ℕ × Edge → Bool) → all test t ≡ true → (c : ℕ) (e : Edge) → get t c ≡ some e → test (c, e) ≡ true
+  at_child : (test : ℕ × Edge → Bool) → all test t ≡ true → (c : ℕ) (e : Edge) → get t c ≡ Some e → test (c, e) ≡ true
   at_child test h = (all_get test t tree_rises).0 h
 
-  pub sound_edge : (c : ℕ) (e : Edge) → get t c ≡ some e → SoundEdge L c e
+  pub sound_edge : (c : ℕ) (e : Edge) → get t c ≡ Some e → SoundEdge L c e
   sound_edge c e q = record {
     frames = at_child (λ x. ltb x.0 (2 ^ 32) && ltb x.1.parent (2 ^ 32)) s.frames c e q;
     parents = at_child (λ x. not (eqb x.1.parent x.0)) s.parents c e q;
@@ -77,14 +77,14 @@ module _ (L : Limits) (t : Tree) (s : SoundTree L t) where
         }
 
     -- in the place of an edge to the same parent
-    pub sound_put_held : (e : Edge) → get t c ≡ some e → d.parent ≡ e.parent → SoundTree L (put c d t)
+    pub sound_put_held : (e : Edge) → get t c ≡ Some e → d.parent ≡ e.parent → SoundTree L (put c d t)
     sound_put_held e q p =
         sound_put
         (let few = s.few in omega (arith, length_put_held c d e t tree_rises q))
         (ranked_grounded (put c d t) _ (ranked_held t _ (grounded_ranked t tree_grounded) c e d q p))
 
     -- as a new child that is not above its parent
-    pub sound_put_new : get t c ≡ none → length t < L.rows → member c (ancestors t d.parent) ≡ false → SoundTree L (put c d t)
+    pub sound_put_new : get t c ≡ None → length t < L.rows → member c (ancestors t d.parent) ≡ false → SoundTree L (put c d t)
     sound_put_new q room apart =
         let own : eqb c d.parent ≡ false = ne_eqb c d.parent (λ e. eqb-false d.parent c (not-true _ sound.parents) (sym e)) in
         sound_put

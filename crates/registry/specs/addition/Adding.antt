@@ -1,6 +1,6 @@
 -- The steps of an addition, as the contracts of the private functions cite them. No public contract rests on these.
 use Rattle.std.specs.Prelude.{ℕ, ◌&&◌, eqb, leb, length}
-use Rattle.std.proofs.Math.Option.{Option}
+use Rattle.std.specs.Prelude.{Option}
 use Rattle.time.specs.Reply.{Reply, nothing, refuse, ◌then◌}
 use Rattle.geometry.specs.declared.isometry.Isometry.{Isometry}
 use Rattle.geometry.specs.Transform.{validate}

@@ -1,6 +1,6 @@
 -- Latest common time, hop by hop, as the contracts of the private functions cite it. No public contract rests on these.
 use Rattle.std.specs.Prelude.{ℕ, min, cond, List, [], ◌∷◌, ltb}
-use Rattle.std.proofs.Math.Option.{Option, none, some}
+use Rattle.std.specs.Prelude.{Option, None, Some}
 use Rattle.time.specs.Reply.{Reply, answer, refusal, hop, refuse, ◌then◌}
 use Rattle.buffer.specs.declared.coverage.Coverage.{Coverage}
 use Rattle.buffer.specs.declared.coverage.Coverage.TheVariants.{AllTime, Range, Empty}
@@ -19,14 +19,14 @@ CommonSpan = Option (ℕ × Span)
 
 -- one moving hop more
 abbrev pub narrow : CommonSpan → Span → CommonSpan
-narrow none x = some (x.end, x)
-narrow (some c) x = some (min c.0 x.end, cond (ltb c.1.start x.start) x c.1)
+narrow None x = Some (x.end, x)
+narrow (Some c) x = Some (min c.0 x.end, cond (ltb c.1.start x.start) x c.1)
 
 -- one hop more; 12 for an empty one
 abbrev pub narrow_by : CommonSpan → ℕ → Coverage → Reply CommonSpan
 narrow_by c child AllTime = answer c
 narrow_by c child (Range start end) = answer (narrow c (record { child = child; start = start; end = end }))
-narrow_by c child Empty = refusal 12 (hop child none)
+narrow_by c child Empty = refusal 12 (hop child None)
 
 abbrev pub narrowed : CommonSpan → List Hop → Reply CommonSpan
 narrowed c [] = answer c
@@ -34,16 +34,16 @@ narrowed c (h ∷ hs) = narrow_by c h.0 (coverage h.1.kind h.1.samples) then λ 
 
 -- what the hops then agree on
 abbrev pub agreed : CommonSpan → Reply Value
-agreed none = answer static
-agreed (some c) = refuse (ltb c.0 c.1.start) 12 (hop c.1.child (some (c.1.start, c.1.end))) (answer (at c.0))
+agreed None = answer static
+agreed (Some c) = refuse (ltb c.0 c.1.start) 12 (hop c.1.child (Some (c.1.start, c.1.end))) (answer (at c.0))
 
 abbrev pub span_of : SpanRead → Span
 span_of x = record { child = x.child; start = x.start; end = x.end }
 
 abbrev pub common_of : Common → CommonSpan
-common_of common.AllTime = none
-common_of (common.Until end late) = some (end, span_of late)
+common_of common.AllTime = None
+common_of (common.Until end late) = Some (end, span_of late)
 
 abbrev pub narrowed_reply : Narrowed → Reply CommonSpan
 narrowed_reply (narrower.To common) = answer (common_of common)
-narrowed_reply (narrower.Empty child) = refusal 12 (hop child none)
+narrowed_reply (narrower.Empty child) = refusal 12 (hop child None)

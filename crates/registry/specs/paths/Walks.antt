@@ -1,6 +1,6 @@
 -- The walks up from two frames, as the contracts of the private functions cite them. No public contract rests on these.
 use Rattle.std.specs.Prelude.{ℕ, ◌^◌, ◌<◌, ◌≡◌, true, cond, List, eqb, length}
-use Rattle.std.proofs.Math.Option.{some}
+use Rattle.std.specs.Prelude.{Some}
 use Rattle.time.specs.Reply.{Reply, answer, refusal, frame}
 use Rattle.buffer.specs.Map.{get}
 use Rattle.registry.specs.declared.paths.climbs.Climb.{Climb}
@@ -29,7 +29,7 @@ climb_to t f goal = cond (member goal (ancestors t f)) Met (Root (length (ancest
 pub record Walkable (h instants : List ℕ) : Type 0 where
   pub rows : InstantRows h instants
   pub circles : OfTree h (λ t. no_circle t ≡ true)
-  pub frames : OfTree h (λ t. (f : ℕ) (e : Edge) → get t f ≡ some e → f < 2 ^ 32)
+  pub frames : OfTree h (λ t. (f : ℕ) (e : Edge) → get t f ≡ Some e → f < 2 ^ 32)
 
 -- and their poses
 pub record WalkablePoses (s : Store) : Type 0 where

@@ -1,6 +1,6 @@
 // The tests of an addition that come before 17.
 ghost use Rattle.std.specs.Prelude.{◌≡◌, List, ℕ, ◌^◌, ◌<◌, Float};
-ghost use Rattle.std.proofs.Math.Option.{none, some};
+ghost use Rattle.std.specs.Prelude.{None, Some};
 ghost use Rattle.time.specs.declared.stamp.Stamp.{Stamp};
 ghost use Rattle.time.specs.Reply.{answer};
 ghost use Rattle.registry.specs.Tree.{Limits, Tree, same_kind, addition};
@@ -60,7 +60,7 @@ pub(crate) fn admit_held(
 ) -> Answer
     requires { HasRow r head.now × (parent_in (head_of head.now) r < 2 ^ 32) }
     ensures { (L : Limits) (t : Tree) (instants : List ℕ) (poses : List Float)
-        → reply_of result ≡ admits L t (addition child parent stamp pose) (some (edge_at (store_of head.now instants poses) r)) (answer done) }
+        → reply_of result ≡ admits L t (addition child parent stamp pose) (Some (edge_at (store_of head.now instants poses) r)) (answer done) }
 {
     let tested = test_pose(child, parent, pose);
     let Answer::Done = tested else {
@@ -80,7 +80,7 @@ pub(crate) fn admit_held(
 pub(crate) fn admit_new(head: &[u64], child: u32, parent: u32, pose: Isometry) -> Answer
     requires { RisingRows head.now }
     ensures { (instants : List ℕ) (poses : List Float) (stamp : Stamp)
-        → (let s = store_of head.now instants poses in reply_of result ≡ admits (limits_of s) (tree_of s) (addition child parent stamp pose) none (answer done)) }
+        → (let s = store_of head.now instants poses in reply_of result ≡ admits (limits_of s) (tree_of s) (addition child parent stamp pose) None (answer done)) }
 {
     if cycle::creates_cycle(head, child as u64, parent as u64) {
         return Answer::CycleDetected;

@@ -1,7 +1,7 @@
 // The poses of a path's two sides, composed while climbing by steps whose results are not tested: 3 is told of what
 // comes out of them all, after every other refusal.
 ghost use Rattle.std.specs.Prelude.{◌≡◌};
-ghost use Rattle.std.proofs.Math.Option.{none};
+ghost use Rattle.std.specs.Prelude.{None};
 ghost use Rattle.time.specs.Reply.{answer, ◌then◌};
 ghost use Rattle.geometry.specs.Isometry.{finite};
 ghost use Rattle.registry.specs.Store.{tree_of};
@@ -51,7 +51,7 @@ pub(crate) fn compose_chain(
     t: u64,
 ) -> Composed
     requires { WalkablePoses (store_of head.now instants.now poses.now) }
-    ensures { composed_reply result ≡ fold none (hops_to (tree_of (store_of head.now instants.now poses.now)) frame top) t }
+    ensures { composed_reply result ≡ fold None (hops_to (tree_of (store_of head.now instants.now poses.now)) frame top) t }
 {
     let mut at = frame;
     let mut below = Side::Empty;
@@ -70,7 +70,7 @@ pub(crate) fn compose_chain(
 
 // A side's pose, and identity for an empty one.
 fn alone(side: Side) -> Isometry
-    ensures { answer result ≡ joined none (side_of side) }
+    ensures { answer result ≡ joined None (side_of side) }
 {
     let Side::Product(pose) = side else {
         return Isometry::identity();

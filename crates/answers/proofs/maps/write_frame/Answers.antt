@@ -1,6 +1,6 @@
 use mathlib.Core.Path.{sym, ap, ◌∙◌}
 use Prim.Native.Nat.{ℕ}
-use mathlib.Core.Option.{Option}
+use Rattle.std.specs.Prelude.{Option}
 use Rattle.time.specs.Reply.{Reply}
 use Rattle.map_file.specs.Answers.{number_of}
 use Rattle.text.specs.Writing.{written_all}

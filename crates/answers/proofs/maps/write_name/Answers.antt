@@ -1,6 +1,6 @@
 use Prim.Native.Nat.{ℕ, ◌+◌, ◌-◌}
 use mathlib.Core.Path.{◌≡◌, sym, ap, ◌∙◌}
-use mathlib.Core.Option.{Option, some}
+use Rattle.std.specs.Prelude.{Option, Some}
 use mathlib.Core.List.{List}
 use native.Mathlib.Omega.{arith}
 use lib.ListN.{take, drop}
@@ -33,7 +33,7 @@ returns-in-Part c =
     let a = c.args in
     let count : c.in-Part.start + c.in-Part.count - c.in-Part.start ≡ c.in-Part.count = omega arith in
     c.write_part.ensures
-    ∙ ap (λ (w : ℕ). written_all a.out.now a.at (name_texts (answer (some (take w (drop c.in-Part.start a.map.now)))))) count
+    ∙ ap (λ (w : ℕ). written_all a.out.now a.at (name_texts (answer (Some (take w (drop c.in-Part.start a.map.now)))))) count
     ∙ ap (λ (r : Reply (Option (List ℕ))). written_all a.out.now a.at (name_texts r)) (sym is_name.name)
 
 pub returns-in-Nothing : goal.returns-in-Nothing

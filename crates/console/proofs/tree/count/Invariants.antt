@@ -1,5 +1,5 @@
 use Rattle.std.proofs.Common.{◌≡◌, ◌+◌, ◌^◌, ◌<◌, ◌≤◌, leb, length, sym, ap, ◌∙◌, arith, rules}
-use mathlib.Core.List.{head?}
+
 use Rattle.buffer.specs.Map.{keep}
 use Rattle.text.proofs.Behind.{behind}
 use Rattle.registry.specs.Tree.{Tree}
@@ -9,6 +9,7 @@ use Rattle.registry.specs.Calls.{store_of}
 use Rattle.registry.proofs.Held.{tree_rises, child_fits}
 use Rattle.console.proofs.EdgesFrom.{from_zero, Next, edge_next, fewer, end_none}
 use Rattle.console.proofs.tree.count.Given as goal
+use Rattle.buffer.specs.Samples.{first?}
 
 -- `tree::count` meets its contract. The loop's invariant: those counted and the edges from `from` on are all; each child counted is below `from`.
 abbrev pub invariant-loop-child : goal.invariant-loop-child

@@ -1,6 +1,6 @@
 use Rattle.std.proofs.Common.{◌≡◌, ℕ, ◌^◌, ◌<◌, leb, [], length, sym, refl, ap, ◌∙◌, rules}
-use mathlib.Core.Option.{none}
-use mathlib.Core.List.{head?}
+use Rattle.std.specs.Prelude.{None}
+
 use Rattle.buffer.specs.Map.{keep}
 use Rattle.text.proofs.Behind.{behind}
 use Rattle.registry.specs.Tree.{Edge, Tree}
@@ -14,6 +14,7 @@ use Rattle.console.specs.Tree.{under}
 use Rattle.console.proofs.EdgesFrom.{Next, edge_next, fewer, end_none}
 use Rattle.console.proofs.EdgesUnder.{keep_under, under_first, under_behind}
 use Rattle.console.proofs.tree.edge_under.Goals as goal
+use Rattle.buffer.specs.Samples.{first?}
 
 -- no edge is left, and so none under the frame
 none_under : (t : Tree) (f k : ℕ) → keep (leb k) t ≡ [] → next.End ≡ told (edge_from (under t f) k)
@@ -47,4 +48,4 @@ loop-child-preserved c =
     let read : Next (tree) c.loop-child.next c.in-Edge.child c.in-Edge.parent c.in-Edge.count c.in-Edge.coverage = edge_next (tree) (tree_rises _ c.requires) _ _ _ _ _ (sym c.in-Edge.is ∙ c.edge_from.ensures) in
     let fits : c.in-Edge.child < 2 ^ 32 = child_fits _ c.requires _ _ read.held in
     let f = c.args.frame in
-    rw (c.behind-next.ensures fits) (sym (ap {A = Tree} head? (under_behind f _ _ _ _ _ _ read c.if-parent-frame.false)) ∙ c.loop-child.invariant)
+    rw (c.behind-next.ensures fits) (sym (ap {A = Tree} first? (under_behind f _ _ _ _ _ _ read c.if-parent-frame.false)) ∙ c.loop-child.invariant)

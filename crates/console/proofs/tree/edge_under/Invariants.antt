@@ -1,6 +1,6 @@
 use Rattle.std.proofs.Common.{◌≡◌, ℕ, ◌^◌, ◌<◌, leb, [], length, sym, refl, ap, ◌∙◌, rules}
-use mathlib.Core.Option.{none}
-use mathlib.Core.List.{head?}
+use Rattle.std.specs.Prelude.{None}
+
 use Rattle.buffer.specs.Map.{keep}
 use Rattle.text.proofs.Behind.{behind}
 use Rattle.registry.specs.Tree.{Edge, Tree}
@@ -14,6 +14,7 @@ use Rattle.console.specs.Tree.{under}
 use Rattle.console.proofs.EdgesFrom.{Next, edge_next, fewer, end_none}
 use Rattle.console.proofs.EdgesUnder.{keep_under, under_first, under_behind}
 use Rattle.console.proofs.tree.edge_under.Given as goal
+use Rattle.buffer.specs.Samples.{first?}
 
 -- `tree::edge_under` meets its contract. The loop's invariant: of the edges under the frame the first from `next` on is the first from `from` on.
 abbrev pub invariant-loop-child : goal.invariant-loop-child

@@ -1,5 +1,5 @@
 use Rattle.std.proofs.Common.{◌≡◌, ℕ, ◌≤◌, Bool, true, false, cond, ◌&&◌, leb, sym, refl, ◌∙◌, rules, le-leb}
-use mathlib.Core.Option.{Option, none, some, map}
+use Rattle.std.specs.Prelude.{Option, None, Some, option_map}
 use borrow.Author.Tests.{lt-leb}
 use Rattle.buffer.specs.Map.{get}
 use Rattle.registry.specs.Tree.{Edge, Tree, is_absent}
@@ -17,18 +17,18 @@ use Rattle.console.proofs.tree.lower_root.Goals as goal
 is_root_lem : (t : Tree) (from f : ℕ) (x y : Option ℕ) → from ≤ f → next.End ≡ told_own t f → x ≡ cond (leb from f && is_root t f) x y
 is_root_lem t from f x y l q = rw (le-leb from f l) (go (get t f) q)
   where
-    go : (m : Option Edge) → next.End ≡ told (map (λ (e : Edge). (f, e)) m) → x ≡ cond (is_absent m) x y
-    go none h = refl
-    go (some e) h = cc
+    go : (m : Option Edge) → next.End ≡ told (option_map (λ (e : Edge). (f, e)) m) → x ≡ cond (is_absent m) x y
+    go None h = refl
+    go (Some e) h = cc
 
 -- it has one: it does not
 is_child : (t : Tree) (from f c p n : ℕ) (v : Coverage) (x y : Option ℕ) → next.Edge c p n v ≡ told_own t f → y ≡ cond (leb from f && is_root t f) x y
 is_child t from f c p n v x y q = go (leb from f) (get t f) q
   where
-    go : (b : Bool) (m : Option Edge) → next.Edge c p n v ≡ told (map (λ (e : Edge). (f, e)) m) → y ≡ cond (b && is_absent m) x y
-    go b none h = cc
-    go true (some e) h = refl
-    go false (some e) h = refl
+    go : (b : Bool) (m : Option Edge) → next.Edge c p n v ≡ told (option_map (λ (e : Edge). (f, e)) m) → y ≡ cond (b && is_absent m) x y
+    go b None h = cc
+    go true (Some e) h = refl
+    go false (Some e) h = refl
 
 pub returns-then-parent-from : goal.returns-then-parent-from
 returns-then-parent-from c = rw (lt-leb _ _ c.if-parent-from.true) refl

@@ -1,5 +1,5 @@
 use Rattle.std.proofs.Common.{◌≡◌, ◌^◌, ◌<◌, leb, length, sym, ap, ◌∙◌, rules}
-use mathlib.Core.Option.{none}
+use Rattle.std.specs.Prelude.{None}
 use Rattle.buffer.specs.Map.{keep}
 use Rattle.text.proofs.Behind.{behind}
 use Rattle.registry.specs.Tree.{Tree}
@@ -14,7 +14,7 @@ use Rattle.console.proofs.tree.root_from.Goals as goal
 pub loop-child-init : goal.loop-child-init
 loop-child-init c =
     let tree : Tree = tree_of (store_of c.args.head.now c.args.instants.now c.args.poses.now) in
-    ap (λ (l : Tree). lowest_root tree c.args.from none l) (from_zero tree)
+    ap (λ (l : Tree). lowest_root tree c.args.from None l) (from_zero tree)
 
 pub returns-in_default : goal.returns-in_default
 returns-in_default c =

@@ -1,5 +1,5 @@
 use Rattle.std.proofs.Common.{◌≡◌, ◌^◌, ◌<◌, leb, length, sym, ap, ◌∙◌, rules}
-use mathlib.Core.Option.{none}
+use Rattle.std.specs.Prelude.{None}
 use Rattle.buffer.specs.Map.{keep}
 use Rattle.text.proofs.Behind.{behind}
 use Rattle.registry.specs.Tree.{Tree}
@@ -13,7 +13,7 @@ use Rattle.console.proofs.tree.root_from.Given as goal
 
 -- `tree::root_from` meets its contract. The loop's invariant: what was found, with the parents of the edges from `next` on, gives the lowest root.
 abbrev pub invariant-loop-child : goal.invariant-loop-child
-invariant-loop-child l = lowest_root (tree_of (store_of l.head l.instants l.poses)) l.from (found l.lowest) (keep (leb l.next) (tree_of (store_of l.head l.instants l.poses))) ≡ lowest_root (tree_of (store_of l.head l.instants l.poses)) l.from none (tree_of (store_of l.head l.instants l.poses))
+invariant-loop-child l = lowest_root (tree_of (store_of l.head l.instants l.poses)) l.from (found l.lowest) (keep (leb l.next) (tree_of (store_of l.head l.instants l.poses))) ≡ lowest_root (tree_of (store_of l.head l.instants l.poses)) l.from None (tree_of (store_of l.head l.instants l.poses))
 
 abbrev pub decreases-loop-child : goal.decreases-loop-child
 decreases-loop-child l = length (keep (leb l.next) (tree_of (store_of l.head l.instants l.poses)))

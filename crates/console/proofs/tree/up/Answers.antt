@@ -1,5 +1,5 @@
 use Rattle.std.proofs.Common.{◌≡◌, ℕ, ◌+◌, ◌^◌, ◌<◌, [], sym, refl, ◌∙◌, arith, rules}
-use mathlib.Core.Option.{Option, none, some, map}
+use Rattle.std.specs.Prelude.{Option, None, Some, option_map}
 use Rattle.buffer.specs.Map.{get}
 use Rattle.text.proofs.Behind.{one, behind, none as nothing}
 use Rattle.registry.specs.Tree.{Edge, Tree}
@@ -18,18 +18,18 @@ at_root : (t : Tree) (f l u : ℕ) → next.End ≡ told_own t f → lines_left 
 unfolding lines_left
 at_root t f l u q = go (get t f) q
   where
-    go : (m : Option Edge) → next.End ≡ told (map (λ (e : Edge). (f, e)) m) → [] ≡ behind_frame (lines_left t l) f m
-    go none h = refl
-    go (some e) h = cc
+    go : (m : Option Edge) → next.End ≡ told (option_map (λ (e : Edge). (f, e)) m) → [] ≡ behind_frame (lines_left t l) f m
+    go None h = refl
+    go (Some e) h = cc
 
 -- behind a child what is left one level up
-at_child : (t : Tree) (f l c p n b : ℕ) (v : Coverage) → ((e : Edge) → get t f ≡ some e → f < 2 ^ 32) → (c < 2 ^ 32 → b ≡ c + 1) → next.Edge c p n v ≡ told_own t f
+at_child : (t : Tree) (f l c p n b : ℕ) (v : Coverage) → ((e : Edge) → get t f ≡ Some e → f < 2 ^ 32) → (c < 2 ^ 32 → b ≡ c + 1) → next.Edge c p n v ≡ told_own t f
     → lines_left t l p b ≡ behind_frame (lines_left t l) f (get t f)
 at_child t f l c p n b v fits step q = go (get t f) refl q
   where
-    go : (m : Option Edge) → get t f ≡ m → next.Edge c p n v ≡ told (map (λ (e : Edge). (f, e)) m) → lines_left t l p b ≡ behind_frame (lines_left t l) f m
-    go none g h = absurd (none_some {A = ℕ} {a = 0} cc)
-    go (some e) g h =
+    go : (m : Option Edge) → get t f ≡ m → next.Edge c p n v ≡ told (option_map (λ (e : Edge). (f, e)) m) → lines_left t l p b ≡ behind_frame (lines_left t l) f m
+    go None g h = absurd (none_some {A = ℕ} {a = 0} cc)
+    go (Some e) g h =
         let k : c ≡ f = cc in
         let j : p ≡ e.parent = cc in
         let s : b ≡ c + 1 = step (omega (arith, fits e g)) in

@@ -1,6 +1,6 @@
 use mathlib.Core.Path.{◌≡◌, refl, sym, ap, subst, ◌∙◌}
 use mathlib.Core.Bool.{not}
-use mathlib.Core.Option.{some}
+use Rattle.std.specs.Prelude.{Some}
 use Prim.Native.Nat.{ℕ, ◌≤◌, ◌+◌}
 use native.Mathlib.Omega.{arith}
 use lib.ListN.{length, drop}
@@ -28,7 +28,7 @@ returns-then-same c =
     here_of c.args.map.now c.loop-i.i c.loop-i.at c.loop-i.parent c.loop-i.invariant.1 (omega arith) in
     let tested : (c.same.result ≡ same c.args.name.now (name_at c.args.map.now c.loop-i.at)) = c.same.ensures ∙ ap (same c.args.name.now) c.name_at-here.ensures in
     let a = c.args in
-    ap (λ (n : ℕ). answer (some n)) c.loop-i.invariant.3
+    ap (λ (n : ℕ). answer (Some n)) c.loop-i.invariant.3
     ∙ frame_here a.map.now c.requires.0 c.loop-i.i (name_at a.map.now c.loop-i.at) (drop (c.loop-i.i + 1) (names_in a.map.now))
     here.is a.name.now c.loop-i.invariant.2 (sym tested ∙ c.if-same.true)
 

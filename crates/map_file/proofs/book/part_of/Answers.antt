@@ -1,6 +1,6 @@
 use mathlib.Core.Path.{◌≡◌, refl, sym, ap, subst, ◌∙◌}
 use mathlib.Core.Bool.{not}
-use mathlib.Core.Option.{some}
+use Rattle.std.specs.Prelude.{Some}
 use Prim.Native.Nat.{ℕ, suc, ◌≤◌, ◌+◌}
 use native.Mathlib.Omega.{arith}
 use lib.ListN.{length, drop}
@@ -44,8 +44,8 @@ returns-then-frame-before c =
     let m = c.args.map.now in
     let names = names_in m in
     let behind : c.loop-i.at + 1 ≡ suc c.loop-i.at = omega arith in
-    ap (λ (n : ℕ). answer (some (n, length c.name_at-here.result.now))) behind
-    ∙ ap (λ (n : Name). answer (some (suc c.loop-i.at, length n))) c.name_at-here.ensures
+    ap (λ (n : ℕ). answer (Some (n, length c.name_at-here.result.now))) behind
+    ∙ ap (λ (n : Name). answer (Some (suc c.loop-i.at, length n))) c.name_at-here.ensures
     ∙ part_first m c.requires.0 c.loop-i.i (name_at m c.loop-i.at) (drop (c.loop-i.i + 1) names) here.is c.args.frame
     (omega (arith, c.loop-i.invariant.2)) (omega (arith, counted_here)) (suc c.loop-i.at) here.place
 

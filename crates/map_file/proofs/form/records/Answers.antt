@@ -1,7 +1,7 @@
 use Prim.Native.Nat.{◌≤◌}
 use mathlib.Core.Path.{◌≡◌, sym, ap, ◌∙◌}
 use mathlib.Core.Bool.{true}
-use mathlib.Core.Option.{some}
+use Rattle.std.specs.Prelude.{Some}
 use native.Mathlib.Omega.{arith}
 use mir.Facts.{Fits-8_32}
 use lib.ListN.{length, drop}
@@ -38,12 +38,12 @@ pub returns-then-end-map : goal.returns-then-end-map
 returns-then-end-map c =
     let long : 7 ≤ length c.args.map.now = omega arith in
     let mark : marked c.args.map.now ≡ true = sym c.has_mark.ensures ∙ c.if-not-has_mark.false in
-    let read : (let m = c.args.map.now in some c.in-At.end ≡ end_of m (times (counted m) record_from (drop 7 m))) = ap end_read (sym c.in-At.is) ∙ c.records_end.ensures in
+    let read : (let m = c.args.map.now in Some c.in-At.end ≡ end_of m (times (counted m) record_from (drop 7 m))) = ap end_read (sym c.in-At.is) ∙ c.records_end.ensures in
     count_over c.args.map.now long mark _ read c.if-end-map.true
 
 pub returns : goal.returns
 returns c =
     let long : 7 ≤ length c.args.map.now = omega arith in
     let mark : marked c.args.map.now ≡ true = sym c.has_mark.ensures ∙ c.if-not-has_mark.false in
-    let read : (let m = c.args.map.now in some c.in-At.end ≡ end_of m (times (counted m) record_from (drop 7 m))) = ap end_read (sym c.in-At.is) ∙ c.records_end.ensures in
+    let read : (let m = c.args.map.now in Some c.in-At.end ≡ end_of m (times (counted m) record_from (drop 7 m))) = ap end_read (sym c.in-At.is) ∙ c.records_end.ensures in
     count_is c.args.map.now long mark _ read c.if-end-map.false

@@ -1,6 +1,6 @@
 use Prim.Native.Nat.{ℕ, suc, ◌+◌, ◌-◌}
 use mathlib.Core.Path.{◌≡◌, sym, ap, ◌∙◌}
-use mathlib.Core.Option.{some}
+use Rattle.std.specs.Prelude.{Some}
 use native.Mathlib.Omega.{arith}
 use lib.ListN.{drop}
 use Rattle.map_file.specs.Form.{times, record_from}
@@ -35,4 +35,4 @@ pub returns : goal.returns
 returns c = let a = c.args in
     let m = a.map.now in
     let done : a.count - c.loop-k.k ≡ 0 = omega arith in
-    sym (c.loop-k.invariant.2 ∙ ap (λ (n : ℕ). end_of m (times n record_from (drop c.loop-k.end m))) done ∙ ap some (end_back m c.loop-k.end c.loop-k.invariant.0))
+    sym (c.loop-k.invariant.2 ∙ ap (λ (n : ℕ). end_of m (times n record_from (drop c.loop-k.end m))) done ∙ ap Some (end_back m c.loop-k.end c.loop-k.invariant.0))

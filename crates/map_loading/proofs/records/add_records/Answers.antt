@@ -1,7 +1,7 @@
 use Prim.Native.Nat.{ℕ, ◌+◌}
 use mathlib.Core.Path.{◌≡◌, refl, sym, ap, ◌∙◌, subst}
 use mathlib.Core.List.{[]}
-use mathlib.Core.Option.{some}
+use Rattle.std.specs.Prelude.{Some}
 use native.Mathlib.Omega.{arith}
 use Rattle.time.specs.Reply.{answer}
 use Rattle.registry.specs.Store.{Store, limits_of, stored}
@@ -44,7 +44,7 @@ returns-in_default c =
     let refused : r ≡ answer done → ⊥ = λ e. c.in_default.not-Done (reply_injective c.add_record-added.result.answer answers.Done e) in
     let as_before = adding_refused c.loop-k.invariant.0 c.loop-k-test.true (record { reply = r; store = after }) c.add_record-added.ensures.poses_after refused in
     let cleared = c.clear.ensures ∙ ap (λ (s : Store). stored (limits_of s) []) as_before.0 ∙ adding_cleared c.loop-k.invariant.0 in
-    ap (λ (s : Store). record { record? = some c.loop-k.k; reply = r; store = s }) cleared ∙ sym as_before.1
+    ap (λ (s : Store). record { record? = Some c.loop-k.k; reply = r; store = s }) cleared ∙ sym as_before.1
 
 pub behind_record-at-requires : goal.behind_record-at-requires
 behind_record-at-requires c = adding_within c.loop-k.invariant.0 c.loop-k-test.true

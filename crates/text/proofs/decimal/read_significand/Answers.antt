@@ -1,6 +1,6 @@
 use mathlib.Core.Path.{◌≡◌, sym, ap, ◌∙◌}
 use mathlib.Core.List.{List}
-use mathlib.Core.Option.{some}
+use Rattle.std.specs.Prelude.{Some}
 use Prim.Native.Nat.{ℕ, ◌<◌}
 use native.Mathlib.Omega.{arith}
 use lib.ListN.{length}
@@ -19,7 +19,7 @@ pub returns-then-point-word : goal.returns-then-point-word
 returns-then-point-word c =
     let word : List ℕ = c.args.word.now in
     let point : ℕ = c.first-point.result in
-    let read : some (c.in-Value.whole, c.in-Value.place) ≡ After 0 (front (word) (point) c.first-point.ensures) = sym (ap number_read c.in-Value.is) ∙ c.some_digits.ensures in
+    let read : Some (c.in-Value.whole, c.in-Value.place) ≡ After 0 (front (word) (point) c.first-point.ensures) = sym (ap number_read c.in-Value.is) ∙ c.some_digits.ensures in
     front_alone word point c.first-point.ensures read c.if-point-word.true
 
 pub overflow_add-point : goal.overflow_add-point
@@ -47,7 +47,7 @@ pub returns-else-point-word : goal.returns-else-point-word
 returns-else-point-word c =
     let word : List ℕ = c.args.word.now in
     let point : ℕ = c.first-point.result in
-    let read : some (c.in-Value.whole, c.in-Value.place) ≡ After 0 (front (word) (point) c.first-point.ensures) = sym (ap number_read c.in-Value.is) ∙ c.some_digits.ensures in
+    let read : Some (c.in-Value.whole, c.in-Value.place) ≡ After 0 (front (word) (point) c.first-point.ensures) = sym (ap number_read c.in-Value.is) ∙ c.some_digits.ensures in
     c.some_digits-in-Value.ensures ∙ both_parts word point c.first-point.ensures read c.if-point-word.false
 
 pub returns-in-Malformed : goal.returns-in-Malformed

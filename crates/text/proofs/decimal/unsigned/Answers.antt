@@ -1,5 +1,5 @@
 use mathlib.Core.Path.{ap, ap₂, ◌∙◌}
-use mathlib.Core.Option.{Option, some}
+use Rattle.std.specs.Prelude.{Option, Some}
 use Prim.Native.Nat.{ℕ, ◌<◌}
 use native.Mathlib.Omega.{arith}
 use lib.ListN.{length}
@@ -11,7 +11,7 @@ use Rattle.text.proofs.decimal.unsigned.Goals as goal
 
 pub returns-then-e-word : goal.returns-then-e-word
 returns-then-e-word c = let a = c.args in
-    c.product.ensures ∙ ap (λ (s : Option (ℕ × ℕ)). going_on (product a.negative s (some (0, 0))) a.next) c.read_significand.ensures
+    c.product.ensures ∙ ap (λ (s : Option (ℕ × ℕ)). going_on (product a.negative s (Some (0, 0))) a.next) c.read_significand.ensures
     ∙ without_exponent a.negative a.word.now c.first-e.result a.next c.first-e.ensures c.if-e-word.true
 
 pub slice_bounds-read_significand-end : goal.slice_bounds-read_significand-end

@@ -1,5 +1,5 @@
 use mathlib.Core.Path.{◌≡◌, refl, sym, ap, ◌∙◌}
-use mathlib.Core.Option.{Option, none}
+use Rattle.std.specs.Prelude.{Option, None}
 use Prim.Native.Nat.{ℕ, ◌+◌, ◌*◌, ◌/◌, ◌^◌, ◌≤◌, ◌<◌}
 use native.Mathlib.Omega.{arith}
 use borrow.Author.Tests.{lt-ltb}
@@ -20,7 +20,7 @@ returns-then-base-d c = let a = c.args in
 
 pub returns-then-most-value : goal.returns-then-most-value
 returns-then-most-value c =
-    let over : 2 ^ 64 ≤ c.loop-i.value * c.args.base + digit (get_or c.args.word.now c.loop-i.i 0) → none ≡ going_on (below (2 ^ 64) (number_from c.args.base c.args.number c.args.word.now)) c.args.next = λ h. let a = c.args in
+    let over : 2 ^ 64 ≤ c.loop-i.value * c.args.base + digit (get_or c.args.word.now c.loop-i.i 0) → None ≡ going_on (below (2 ^ 64) (number_from c.args.base c.args.number c.args.word.now)) c.args.next = λ h. let a = c.args in
     sym (ap (λ (o : Option ℕ). going_on (below (2 ^ 64) o) a.next) c.loop-i.invariant.0
     ∙ ap (λ (o : Option ℕ). going_on o a.next) (number_over a.base c.requires (2 ^ 64) a.word.now c.loop-i.value c.loop-i.i c.loop-i-test.true h)) in
     let h : 18446744073709551615 / c.args.base < c.loop-i.value = omega arith in
@@ -40,7 +40,7 @@ overflow_sub-high c =
 
 pub returns-then-high-d : goal.returns-then-high-d
 returns-then-high-d c =
-    let over : 2 ^ 64 ≤ c.loop-i.value * c.args.base + digit (get_or c.args.word.now c.loop-i.i 0) → none ≡ going_on (below (2 ^ 64) (number_from c.args.base c.args.number c.args.word.now)) c.args.next = λ h. let a = c.args in
+    let over : 2 ^ 64 ≤ c.loop-i.value * c.args.base + digit (get_or c.args.word.now c.loop-i.i 0) → None ≡ going_on (below (2 ^ 64) (number_from c.args.base c.args.number c.args.word.now)) c.args.next = λ h. let a = c.args in
     sym (ap (λ (o : Option ℕ). going_on (below (2 ^ 64) o) a.next) c.loop-i.invariant.0
     ∙ ap (λ (o : Option ℕ). going_on o a.next) (number_over a.base c.requires (2 ^ 64) a.word.now c.loop-i.value c.loop-i.i c.loop-i-test.true h)) in
     let within : c.loop-i.value * c.args.base ≤ 18446744073709551615 = let h : c.loop-i.value ≤ 18446744073709551615 / c.args.base = omega arith in

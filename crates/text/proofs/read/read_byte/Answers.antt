@@ -1,5 +1,5 @@
 use mathlib.Core.Path.{sym, ap, ◌∙◌}
-use mathlib.Core.Option.{some}
+use Rattle.std.specs.Prelude.{Some}
 use native.Mathlib.Omega.{arith}
 use Rattle.text.proofs.Bytes.{byte_short, byte_other_high, byte_other_low, byte_value}
 use Rattle.text.proofs.read.read_byte.Goals as goal
@@ -20,4 +20,4 @@ returns-then-low-ge16 c = let a = c.args in
 
 pub returns : goal.returns
 returns c = let a = c.args in
-    ap some (omega arith) ∙ sym (byte_value a.line.now a.at (omega arith) (omega arith) (omega arith))
+    ap Some (omega arith) ∙ sym (byte_value a.line.now a.at (omega arith) (omega arith) (omega arith))

@@ -1,5 +1,5 @@
 use Rattle.std.proofs.Common.{ap₂, eq-eqb, ne_eqb}
-use mathlib.Core.Option.{Option, some}
+use Rattle.std.specs.Prelude.{Option, Some}
 use lib.Ieee.{Float}
 use Rattle.time.specs.Float.{◌⊘◌}
 use Rattle.time.specs.Reply.{Reply, answer}
@@ -22,4 +22,4 @@ pub returns-in-Nanos-duration_since : goal.returns-in-Nanos-duration_since
 unfolding share
 returns-in-Nanos-duration_since c =
     rw (← c.duration_since.ensures, c.in-Nanos.is, ne_eqb _ _ c.if-span-eq0.false, ← c.duration_since-in-Nanos.ensures, c.in-Nanos-duration_since.is)
-    (ap₂ {C = Reply (Option Float)} (λ (x y : Float). answer (some (x ⊘ y))) c.as_secs_f64.ensures c.as_secs_f64-in-Nanos-duration_since.ensures)
+    (ap₂ {C = Reply (Option Float)} (λ (x y : Float). answer (Some (x ⊘ y))) c.as_secs_f64.ensures c.as_secs_f64-in-Nanos-duration_since.ensures)

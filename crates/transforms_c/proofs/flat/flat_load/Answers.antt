@@ -1,5 +1,5 @@
 use mathlib.Core.Path.{◌≡◌, refl, sym, ap, ◌∙◌}
-use mathlib.Core.Option.{Option, none}
+use Rattle.std.specs.Prelude.{Option, None}
 use Prim.Native.Nat.{ℕ}
 use Rattle.map_loading.specs.Loading.{record_of, load_reply}
 use Rattle.map_loading.specs.declared.answer.Loaded.{Loaded}
@@ -11,7 +11,7 @@ use Rattle.transforms_c.proofs.flat.flat_load.Goals as goal
 
 -- `transforms_c::flat::flat_load` meets its contract: a record's refusal is marked, all else is told as it is.
 -- all but a record's refusal
-no_record : (l : Loaded) → ((n : ℕ) (a : registry.Answer) → l ≡ loaded.Record n a → ⊥) → record_of l ≡ none
+no_record : (l : Loaded) → ((n : ℕ) (a : registry.Answer) → l ≡ loaded.Record n a → ⊥) → record_of l ≡ None
 no_record loaded.Done h = refl
 no_record loaded.Sizes h = refl
 no_record loaded.UnsoundStore h = refl

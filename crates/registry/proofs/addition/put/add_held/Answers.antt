@@ -1,5 +1,5 @@
 use mathlib.Core.Path.{sym, ap, ◌∙◌}
-use mathlib.Core.Option.{some}
+use Rattle.std.specs.Prelude.{Some}
 use borrow.Author.Rules.{rules}
 use Rattle.registry.specs.Tree.{addition}
 use Rattle.registry.specs.Store.{Store, limits_of, edge_at, tree_of}
@@ -20,7 +20,7 @@ pub returns-in_default : goal.returns-in_default
 returns-in_default c =
     let store : Store = store_of c.args.head.now c.args.instants.now c.args.poses.now in
     let z = store in
-    refused_written (limits_of z) (tree_of z) (addition c.args.child c.args.parent c.args.stamp c.args.pose) (some (edge_at z c.args.r))
+    refused_written (limits_of z) (tree_of z) (addition c.args.child c.args.parent c.args.stamp c.args.pose) (Some (edge_at z c.args.r))
     (held_get z c.requires.0 c.args.child c.args.parent c.args.stamp c.args.pose c.args.r c.requires.1)
     z c.admit_held-admitted.result c.in_default.not-Done (c.admit_held-admitted.ensures (limits_of z) (tree_of z) z.instants z.poses)
 

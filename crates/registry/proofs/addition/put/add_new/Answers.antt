@@ -1,6 +1,6 @@
 use Prim.Native.Nat.{◌<◌}
 use mathlib.Core.Path.{◌≡◌, sym, ap, subst, ◌∙◌}
-use mathlib.Core.Option.{none}
+use Rattle.std.specs.Prelude.{None}
 use borrow.Author.Rules.{rules}
 use Rattle.time.specs.Reply.{answer}
 use Rattle.registry.specs.Tree.{Addition, addition}
@@ -25,7 +25,7 @@ returns-in_default c =
     let store : Store = store_of c.args.head.now c.args.instants.now c.args.poses.now in
     let added : Addition = addition c.args.child c.args.parent c.args.stamp c.args.pose in
     let z = store in
-    refused_written (limits_of z) (tree_of z) added none
+    refused_written (limits_of z) (tree_of z) added None
     (absent_get z c.requires.0 c.args.child c.args.parent c.args.stamp c.args.pose c.args.k c.requires.1)
     z c.admit_new-admitted.result c.in_default.not-Done (c.admit_new-admitted.ensures z.instants z.poses c.args.stamp)
 
@@ -33,7 +33,7 @@ pub new_row-requires : goal.new_row-requires
 new_row-requires c =
     let store : Store = store_of c.args.head.now c.args.instants.now c.args.poses.now in
     let added : Addition = addition c.args.child c.args.parent c.args.stamp c.args.pose in
-    let admitted : (let z = store in answer done ≡ admits (limits_of z) (tree_of z) (added) none (answer done)) = let z = store in
+    let admitted : (let z = store in answer done ≡ admits (limits_of z) (tree_of z) (added) None (answer done)) = let z = store in
     sym (ap reply_of c.in-Done.is) ∙ c.admit_new-admitted.ensures z.instants z.poses c.args.stamp in
     let room : used_in (store) < rows_in (store) = admits_room (store) (added) (admitted) in
     row_room store c.requires.0 (search rules) c.args.k c.args.child c.args.parent c.kind_of.result c.requires.1 room
@@ -42,7 +42,7 @@ pub put_row-requires : goal.put_row-requires
 put_row-requires c =
     let store : Store = store_of c.args.head.now c.args.instants.now c.args.poses.now in
     let added : Addition = addition c.args.child c.args.parent c.args.stamp c.args.pose in
-    let admitted : (let z = store in answer done ≡ admits (limits_of z) (tree_of z) (added) none (answer done)) = let z = store in
+    let admitted : (let z = store in answer done ≡ admits (limits_of z) (tree_of z) (added) None (answer done)) = let z = store in
     sym (ap reply_of c.in-Done.is) ∙ c.admit_new-admitted.ensures z.instants z.poses c.args.stamp in
     let room : used_in (store) < rows_in (store) = admits_room (store) (added) (admitted) in
     subst (StoredRow c.args.k) (sym c.new_row.ensures)
@@ -52,7 +52,7 @@ pub returns : goal.returns
 returns c =
     let store : Store = store_of c.args.head.now c.args.instants.now c.args.poses.now in
     let added : Addition = addition c.args.child c.args.parent c.args.stamp c.args.pose in
-    let admitted : (let z = store in answer done ≡ admits (limits_of z) (tree_of z) (added) none (answer done)) = let z = store in
+    let admitted : (let z = store in answer done ≡ admits (limits_of z) (tree_of z) (added) None (answer done)) = let z = store in
     sym (ap reply_of c.in-Done.is) ∙ c.admit_new-admitted.ensures z.instants z.poses c.args.stamp in
     let room : used_in (store) < rows_in (store) = admits_room (store) (added) (admitted) in
     let k = c.kind_of in

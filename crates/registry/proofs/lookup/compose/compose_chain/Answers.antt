@@ -1,5 +1,5 @@
 use mathlib.Core.Path.{◌≡◌, sym, ap, ◌∙◌}
-use mathlib.Core.Option.{none}
+use Rattle.std.specs.Prelude.{None}
 use native.Mathlib.Omega.{arith}
 use Rattle.time.specs.Reply.{◌then◌}
 use Rattle.registry.specs.declared.paths.edges.HopPose.{HopPose}
@@ -23,7 +23,7 @@ returns-in-Root c =
     let tree : Tree = tree_of (store_of c.args.head.now c.args.instants.now c.args.poses.now) in
     let ground : Grounded (tree) = let a = c.args in
     grounded (store_of a.head.now a.instants.now a.poses.now) c.requires.rows.rows (c.requires.walk.circles a.instants.now a.poses.now) in
-    let hop : (v : HopPose) → c.pose_of.result ≡ v → (let a = c.args in let l = c.loop-at in fold none (hops_to (tree) a.frame a.top) a.t ≡ (pose_read l.at v then fold_on (tree) a.top a.t (side_of l.below))) = λ v told. let a = c.args in
+    let hop : (v : HopPose) → c.pose_of.result ≡ v → (let a = c.args in let l = c.loop-at in fold None (hops_to (tree) a.frame a.top) a.t ≡ (pose_read l.at v then fold_on (tree) a.top a.t (side_of l.below))) = λ v told. let a = c.args in
     let l = c.loop-at in
     composing_hop (tree) a.frame a.top a.t l.at (side_of l.below) l.invariant (ground) c.loop-at-test.true told c.pose_of.ensures in
     sym (hop _ c.in-Root.is)
@@ -42,7 +42,7 @@ returns-in-NotFoundAt c =
     let tree : Tree = tree_of (store_of c.args.head.now c.args.instants.now c.args.poses.now) in
     let ground : Grounded (tree) = let a = c.args in
     grounded (store_of a.head.now a.instants.now a.poses.now) c.requires.rows.rows (c.requires.walk.circles a.instants.now a.poses.now) in
-    let hop : (v : HopPose) → c.pose_of.result ≡ v → (let a = c.args in let l = c.loop-at in fold none (hops_to (tree) a.frame a.top) a.t ≡ (pose_read l.at v then fold_on (tree) a.top a.t (side_of l.below))) = λ v told. let a = c.args in
+    let hop : (v : HopPose) → c.pose_of.result ≡ v → (let a = c.args in let l = c.loop-at in fold None (hops_to (tree) a.frame a.top) a.t ≡ (pose_read l.at v then fold_on (tree) a.top a.t (side_of l.below))) = λ v told. let a = c.args in
     let l = c.loop-at in
     composing_hop (tree) a.frame a.top a.t l.at (side_of l.below) l.invariant (ground) c.loop-at-test.true told c.pose_of.ensures in
     sym (hop _ c.in-NotFoundAt.is)
@@ -61,7 +61,7 @@ loop-at-preserved c =
     let tree : Tree = tree_of (store_of c.args.head.now c.args.instants.now c.args.poses.now) in
     let ground : Grounded (tree) = let a = c.args in
     grounded (store_of a.head.now a.instants.now a.poses.now) c.requires.rows.rows (c.requires.walk.circles a.instants.now a.poses.now) in
-    let hop : (v : HopPose) → c.pose_of.result ≡ v → (let a = c.args in let l = c.loop-at in fold none (hops_to (tree) a.frame a.top) a.t ≡ (pose_read l.at v then fold_on (tree) a.top a.t (side_of l.below))) = λ v told. let a = c.args in
+    let hop : (v : HopPose) → c.pose_of.result ≡ v → (let a = c.args in let l = c.loop-at in fold None (hops_to (tree) a.frame a.top) a.t ≡ (pose_read l.at v then fold_on (tree) a.top a.t (side_of l.below))) = λ v told. let a = c.args in
     let l = c.loop-at in
     composing_hop (tree) a.frame a.top a.t l.at (side_of l.below) l.invariant (ground) c.loop-at-test.true told c.pose_of.ensures in
     rw c.onto.ensures (hop _ c.in-Pose.is)

@@ -1,5 +1,5 @@
 use mathlib.Core.Path.{◌≡◌}
-use mathlib.Core.Option.{some}
+use Rattle.std.specs.Prelude.{Some}
 use Rattle.buffer.specs.Map.{get}
 use Rattle.registry.specs.Store.{Store, edge_at, tree_of}
 use Rattle.registry.specs.Calls.{store_of}
@@ -20,7 +20,7 @@ parent_at-requires c = row_within c.args.head.now c.requires.rows c.args.frame _
 pub returns-in-Pose : goal.returns-in-Pose
 returns-in-Pose c =
     let store : Store = store_of c.args.head.now c.args.instants.now c.args.poses.now in
-    let edge : (get (tree_of (store)) c.args.frame ≡ some (edge_at (store) c.in-At.row)) = row_edge c.args.head.now c.requires.rows c.args.frame _ c.find_row.ensures _ c.in-At.is
+    let edge : (get (tree_of (store)) c.args.frame ≡ Some (edge_at (store) c.in-At.row)) = row_edge c.args.head.now c.requires.rows c.args.frame _ c.find_row.ensures _ c.in-At.is
     c.args.instants.now c.args.poses.now in
     let f = c.args.frame in
     rw (edge, ← c.row_pose.ensures f, c.in-Pose.is, c.parent_at.ensures)
@@ -28,13 +28,13 @@ returns-in-Pose c =
 pub returns-in-OutOfRange : goal.returns-in-OutOfRange
 returns-in-OutOfRange c =
     let store : Store = store_of c.args.head.now c.args.instants.now c.args.poses.now in
-    let edge : (get (tree_of (store)) c.args.frame ≡ some (edge_at (store) c.in-At.row)) = row_edge c.args.head.now c.requires.rows c.args.frame _ c.find_row.ensures _ c.in-At.is
+    let edge : (get (tree_of (store)) c.args.frame ≡ Some (edge_at (store) c.in-At.row)) = row_edge c.args.head.now c.requires.rows c.args.frame _ c.find_row.ensures _ c.in-At.is
     c.args.instants.now c.args.poses.now in
     rw (edge, ← c.row_pose.ensures c.args.frame, c.in-OutOfRange.is)
 
 pub returns-in-NoTransformAvailable : goal.returns-in-NoTransformAvailable
 returns-in-NoTransformAvailable c =
     let store : Store = store_of c.args.head.now c.args.instants.now c.args.poses.now in
-    let edge : (get (tree_of (store)) c.args.frame ≡ some (edge_at (store) c.in-At.row)) = row_edge c.args.head.now c.requires.rows c.args.frame _ c.find_row.ensures _ c.in-At.is
+    let edge : (get (tree_of (store)) c.args.frame ≡ Some (edge_at (store) c.in-At.row)) = row_edge c.args.head.now c.requires.rows c.args.frame _ c.find_row.ensures _ c.in-At.is
     c.args.instants.now c.args.poses.now in
     rw (edge, ← c.row_pose.ensures c.args.frame, c.in-NoTransformAvailable.is)
