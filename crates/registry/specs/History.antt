@@ -1,6 +1,6 @@
 -- What a list of additions says of each frame, told from the accepted ones alone, in the words of demand 3.
 use Rattle.std.specs.Prelude.{ℕ, max, ◌-◌, ◌≡◌, Bool, true, false, cond, ◌||◌, eqb, ltb, leb}
-use Rattle.std.specs.Prelude.{Option, None, Some}
+use Rattle.std.specs.Prelude.{Option, None, Some, option_map}
 use mathlib.Core.List.{List, [], ◌∷◌, map}
 use Rattle.std.specs.Float.{binary64}
 use Rattle.std.specs.Float.Ieee.{to_bits}
