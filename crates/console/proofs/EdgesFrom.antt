@@ -1,7 +1,6 @@
 -- The edges of a tree from a number on: the next one that is read, and those behind it.
 use Rattle.std.proofs.Common.{◌≡◌, ℕ, ◌+◌, ◌<◌, ◌≤◌, true, false, leb, [], ◌∷◌, length, sym, refl, ap, subst, ◌∙◌, arith, le-leb, leb-false, leb-true}
 use Rattle.std.specs.Prelude.{Option, None, Some}
-
 use borrow.Author.Tests.{lt-leb}
 use Rattle.buffer.specs.declared.coverage.Coverage.{Coverage}
 use Rattle.buffer.specs.Map.{get, keep, rising}

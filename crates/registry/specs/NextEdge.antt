@@ -1,7 +1,6 @@
 -- Reading a tree through, edge by edge in the order of its children.
 use Rattle.std.specs.Prelude.{ℕ, ◌≤◌, ◌≡◌, true, leb, length}
 use Rattle.std.specs.Prelude.{Option, None, Some}
-
 use Rattle.buffer.specs.Map.{get, keep, rising}
 use Rattle.buffer.specs.Samples.{coverage, first?}
 use Rattle.registry.specs.declared.checked.NextEdge.{NextEdge}

@@ -1,5 +1,4 @@
 use Rattle.std.proofs.Common.{◌≡◌, ◌+◌, ◌^◌, ◌<◌, ◌≤◌, leb, length, sym, ap, ◌∙◌, arith, rules}
-
 use Rattle.buffer.specs.Map.{keep}
 use Rattle.text.proofs.Behind.{behind}
 use Rattle.registry.specs.Tree.{Tree}

@@ -1,6 +1,5 @@
 use Rattle.std.proofs.Common.{◌≡◌, ℕ, ◌^◌, ◌<◌, leb, [], length, sym, refl, ap, ◌∙◌, rules}
 use Rattle.std.specs.Prelude.{None}
-
 use Rattle.buffer.specs.Map.{keep}
 use Rattle.text.proofs.Behind.{behind}
 use Rattle.registry.specs.Tree.{Edge, Tree}
