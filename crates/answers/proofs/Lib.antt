@@ -1,2 +1,1 @@
 pub mod ByteDigits
-pub mod NoName

@@ -1,9 +1,12 @@
 // The answers of the text protocol: the text of what is replied, in a lent buffer.
 // No public function has a `requires`.
-#![tactic(auto)]
+#![tactic(auto, using(text::proofs::Behind::written_in_turn))]
 
 mod maps;
 mod write;
 
 pub use maps::{write_frame, write_loaded, write_name};
-pub use write::{write_float_answer, write_float_word, write_number_word, write_pose, write_reply};
+pub use write::{
+    write_common_time, write_done, write_float_answer, write_float_word, write_lookup,
+    write_number_word, write_pose, write_posed,
+};

@@ -1,103 +1,99 @@
-// The text of what a load and the book of names answer, written into a lent buffer at a place. The answer is the
-// next place.
-ghost use Rattle.std.specs.Prelude.{◌≡◌, ◌∷◌, [], map};
-ghost use Rattle.std.specs.Prelude.{Some};
-ghost use Rattle.time.specs.Reply.{answer as Reply·answer, nothing};
-ghost use Rattle.text.specs.Writing.{byte_text, written_all};
-ghost use Rattle.registry.specs.Answers.{reply_of};
+// The text of what a load and the book of names answer.
+ghost use Rattle.std.specs.Prelude.{◌≡◌, ◌∷◌, [], map, Some};
+ghost use Rattle.time.specs.Reply.{answer, refusal, nothing};
+ghost use Rattle.text.specs.Writing.{Writes, byte_text};
+ghost use Rattle.registry.specs.Answers.{refusal_of};
 ghost use Rattle.map_file.specs.Book.{frame_in, name_in};
 ghost use Rattle.map_loading.specs.Loading.{record_of, load_reply};
-ghost use Rattle.answers.specs.Texts.{none_word, reply_texts, refusal_texts, load_texts, frame_texts, name_texts};
+ghost use Rattle.answers.specs.Texts.{none_word, refusal_texts, load_texts, frame_texts, name_texts};
 
 use crate::write;
 use map_file::book;
-use map_file::book::{Named, Numbered};
-use map_loading::answer::Loaded;
-use registry::answer::{Answer, Reply};
+use map_loading::error::LoadError;
+use registry::error::{Carried, RegistryError};
+use text::Writer;
 
-fn write_answer(out: &mut [u8], at: usize, answer: Answer) -> usize
-    ensures { (result, out.new) ≡ written_all out.old at (reply_texts (reply_of answer)) }
+fn write_none(w: &mut Writer<'_>)
+    ensures { Writes w.old w.new (none_word ∷ []) }
 {
-    write::write_reply(out, at, Reply::of_tree(answer))
-}
-
-fn write_none(out: &mut [u8], at: usize) -> usize
-    ensures { (result, out.new) ≡ written_all out.old at (none_word ∷ []) }
-{
-    text::write_bytes(out, at, b"none")
+    w.write_bytes(b"none");
 }
 
 // The refusal of a file of wrong form.
-fn write_map_form(out: &mut [u8], at: usize) -> usize
-    ensures { (result, out.new) ≡ written_all out.old at (refusal_texts 18 nothing) }
+fn write_map_form(w: &mut Writer<'_>)
+    ensures { Writes w.old w.new (refusal_texts 18 nothing) }
 {
-    write_answer(out, at, Answer::MapForm)
+    write::write_refusal(w, LoadError::MapForm.number(), Carried::Nothing);
 }
 
-fn write_record(out: &mut [u8], at: usize, n: u32, refused: Answer) -> usize
-    ensures { (result, out.new) ≡ written_all out.old at (load_texts (Some n) (reply_of refused)) }
+fn write_record(w: &mut Writer<'_>, n: u32, error: RegistryError)
+    ensures { Writes w.old w.new (load_texts (Some n) (refusal (refusal_of error).0 (refusal_of error).1)) }
 {
-    let first = text::write_bytes(out, at, b"record");
-    let second = write::write_number_word(out, first, n as u64);
-    let third = text::write_bytes(out, second, b" ");
-    write_answer(out, third, refused)
+    w.write_bytes(b"record");
+    write::write_number_word(w, u64::from(n));
+    w.write_bytes(b" ");
+    write::write_error(w, error);
 }
 
-// What a load answers.
-pub fn write_loaded(out: &mut [u8], at: usize, loaded: Loaded) -> usize
-    ensures { (result, out.new) ≡ written_all out.old at (load_texts (record_of loaded) (load_reply loaded)) }
+// What a load gives.
+pub fn write_loaded(w: &mut Writer<'_>, loaded: Result<(), LoadError>)
+    ensures { Writes w.old w.new (load_texts (record_of loaded) (load_reply loaded)) }
 {
-    let Loaded::Record(n, refused) = loaded else {
-        return write_answer(out, at, loaded.answer());
-    };
-    write_record(out, at, n, refused)
+    match loaded {
+        Ok(()) => w.write_bytes(b"done"),
+        Err(LoadError::Store(error)) => write::write_error(w, error),
+        Err(LoadError::StoreInUse) => write::write_refusal(
+            w,
+            LoadError::StoreInUse.number(),
+            Carried::Nothing,
+        ),
+        Err(LoadError::MapForm) => write_map_form(w),
+        Err(LoadError::Record(n, error)) => write_record(w, n, error),
+    }
 }
 
-fn write_number(out: &mut [u8], at: usize, frame: u32) -> usize
-    ensures { (result, out.new) ≡ written_all out.old at (frame_texts (Reply·answer (Some frame))) }
+fn write_number(w: &mut Writer<'_>, frame: u32)
+    ensures { Writes w.old w.new (frame_texts (answer (Some frame))) }
 {
-    let next = text::write_bytes(out, at, b"frame");
-    write::write_number_word(out, next, frame as u64)
+    w.write_bytes(b"frame");
+    write::write_number_word(w, u64::from(frame));
 }
 
 // What the book answers for a name.
-pub fn write_frame(out: &mut [u8], at: usize, map: &[u8], name: &[u8]) -> usize
-    ensures { (result, out.new) ≡ written_all out.old at (frame_texts (frame_in map.now name.now)) }
+pub fn write_frame(w: &mut Writer<'_>, map: &[u8], name: &[u8])
+    ensures { Writes w.old w.new (frame_texts (frame_in map.now name.now)) }
 {
     match book::frame_of(map, name) {
-        Numbered::Frame(frame) => return write_number(out, at, frame),
-        Numbered::Nothing => return write_none(out, at),
-        Numbered::MapForm => return write_map_form(out, at),
+        Ok(Some(frame)) => write_number(w, frame),
+        Ok(None) => write_none(w),
+        Err(_) => write_map_form(w),
     }
 }
 
 // Bytes, two digits each.
-fn write_digits(out: &mut [u8], at: usize, bytes: &[u8]) -> usize
-    ensures { (result, out.new) ≡ written_all out.old at (map byte_text bytes.now) }
+#[tactic(auto, using(text::proofs::Behind::written_in_turn, crate::proofs::ByteDigits::digits_more, crate::proofs::ByteDigits::digits_last,),)]
+fn write_digits(w: &mut Writer<'_>, bytes: &[u8])
+    ensures { Writes w.old w.new (map byte_text bytes.now) }
 {
-    let mut to = at;
-    let mut i = 0;
-    while i < bytes.len() {
-        to = text::write_byte(out, to, bytes[i]);
-        i += 1;
+    for b in bytes {
+        w.write_byte(*b);
     }
-    to
 }
 
-fn write_part(out: &mut [u8], at: usize, name: &[u8]) -> usize
-    ensures { (result, out.new) ≡ written_all out.old at (name_texts (Reply·answer (Some name.now))) }
+fn write_bytes_of_name(w: &mut Writer<'_>, name: &[u8])
+    ensures { Writes w.old w.new (name_texts (answer (Some name.now))) }
 {
-    let next = text::write_bytes(out, at, b"name ");
-    write_digits(out, next, name)
+    w.write_bytes(b"name ");
+    write_digits(w, name);
 }
 
 // What the book answers for a number.
-pub fn write_name(out: &mut [u8], at: usize, map: &[u8], frame: u32) -> usize
-    ensures { (result, out.new) ≡ written_all out.old at (name_texts (name_in map.now frame)) }
+pub fn write_name(w: &mut Writer<'_>, map: &[u8], frame: u32)
+    ensures { Writes w.old w.new (name_texts (name_in map.now frame)) }
 {
     match book::name_of(map, frame) {
-        Named::Part(start, count) => return write_part(out, at, &map[start..start + count]),
-        Named::Nothing => return write_none(out, at),
-        Named::MapForm => return write_map_form(out, at),
+        Ok(Some(name)) => write_bytes_of_name(w, name.bytes),
+        Ok(None) => write_none(w),
+        Err(_) => write_map_form(w),
     }
 }

@@ -6,7 +6,7 @@ use mathlib.Core.Bool.{Bool, true, ◌&&◌, and_assoc}
 use Rattle.std.specs.Prelude.{Some}
 use mathlib.Core.List.{List, [], ◌∷◌, ◌++◌}
 use native.Mathlib.Omega.{arith}
-use lib.ListN.{length, get_or, replicate}
+use lib.ListN.{length, get_or, take, drop, replicate, take-append-drop}
 use lib.Dec.{eqb}
 use borrow.Author.Tests.{lt-ltb, le-ltb, eq-eqb, ne_eqb, eqb-true}
 use Rattle.buffer.specs.Map.{Map, all, get, put, keep}
@@ -17,6 +17,10 @@ module _ {A : Type 0} where
   pub all_append : (test : A → Bool) (xs ys : List A) → all test (xs ++ ys) ≡ (all test xs && all test ys)
   all_append test [] ys = refl
   all_append test (x ∷ xs) ys = ap (λ b. test x && b) (all_append test xs ys) ∙ sym (and_assoc (test x) (all test xs) (all test ys))
+
+  -- of a list that is cut in two
+  pub all_cut : (test : A → Bool) (k : ℕ) (l xs ys : List A) → xs ≡ take k l → ys ≡ drop k l → all test l ≡ (all test xs && all test ys)
+  all_cut test k l xs ys p q = rw (p, q) (ap (all test) (sym (take-append-drop k l)) ∙ all_append test (take k l) (drop k l))
 
   pub all_weaken : (p q : A → Bool) (xs : List A) → ((x : A) → p x ≡ true → q x ≡ true) → all p xs ≡ true → all q xs ≡ true
   all_weaken p q [] w h = refl

@@ -7,7 +7,7 @@ use native.Mathlib.Nat.{le_of_suc-le-suc, not-suc-le-zero}
 use native.Mathlib.Omega.{arith}
 use lib.Dec.{ltb}
 use lib.ListN.{length, get_or, take, drop, length-drop}
-use lib.Seq.{drop-cons, drop-drop}
+use lib.Seq.{drop-cons}
 use borrow.Author.Tests.{lt-ltb, ltb-true}
 use Rattle.buffer.specs.Map.{all, ascending}
 use Rattle.buffer.proofs.Cases.{both, and_left}
@@ -67,11 +67,10 @@ two_chunks zero (x ∷ l) h = refl
 two_chunks (suc k) (x ∷ []) h = absurd (not-suc-le-zero (le_of_suc-le-suc h))
 two_chunks (suc k) (x ∷ y ∷ l) h = ap (λ b. ltb x y && b) (two_chunks k (y ∷ l) (le_of_suc-le-suc h)) ∙ sym (and_assoc (ltb x y) _ _)
 
--- w is the width as the code has it
-pub rising_split : (i k w : ℕ) (l : List ℕ) → i + k < length l → w ≡ suc k → ascending (drop i l) ≡ ascending (take w (drop i l)) && ascending (drop (i + k) l)
-rising_split i k w l h q =
-    sym (neighbours_is (drop i l))
-    ∙ two_chunks k (drop i l) (rw length-drop (omega arith))
-    ∙ ap₂ (λ a b. a && b)
-    (neighbours_is (take (suc k) (drop i l)) ∙ ap (λ (n : ℕ). ascending (take n (drop i l))) (sym q))
-    (neighbours_is (drop k (drop i l)) ∙ ap ascending (drop-drop k i l))
+-- xs is the first chunk, of k numbers and the first of the next
+pub rising_cut : (k : ℕ) (l xs : List ℕ) → k < length l → xs ≡ take (suc k) l → ascending l ≡ ascending xs && ascending (drop k l)
+rising_cut k l xs h q =
+    rw q (
+    sym (neighbours_is l)
+    ∙ two_chunks k l h
+    ∙ ap₂ (λ a b. a && b) (neighbours_is (take (suc k) l)) (neighbours_is (drop k l)))

@@ -13,6 +13,7 @@ use borrow.Author.Tests.{eqb-true}
 use Rattle.time.specs.Float.{zero64}
 use Rattle.buffer.specs.Map.{all}
 use Rattle.buffer.specs.Row.{is_zero, FloatsFit}
+pub use Rattle.buffer.specs.Row.{is_zero64}
 use Rattle.buffer.proofs.Cases.{and_left, and_right}
 
 pub fit_drop : (n : ℕ) (fs : List Float) → FloatsFit fs → FloatsFit (drop n fs)
@@ -24,24 +25,8 @@ fit_take (suc n) [] h i = h i
 fit_take (suc n) (x ∷ fs) h zero = h 0
 fit_take (suc n) (x ∷ fs) h (suc i) = fit_take n fs (λ j. h (suc j)) i
 
-pub bits_injective : (x y : Float) → T (fits binary64 x) → T (fits binary64 y) → to_bits binary64 x ≡ to_bits binary64 y → x ≡ y
-bits_injective x y hx hy e = sym (of_bits-to_bits binary64 x hx) ∙ ap (of_bits binary64) e ∙ of_bits-to_bits binary64 y hy
-
-pub floats_injective : (xs ys : List Float) → FloatsFit xs → FloatsFit ys → map (to_bits binary64) xs ≡ map (to_bits binary64) ys → xs ≡ ys
-floats_injective [] [] hx hy e = refl
-floats_injective [] (y ∷ ys) hx hy e = cc
-floats_injective (x ∷ xs) [] hx hy e = cc
-floats_injective (x ∷ xs) (y ∷ ys) hx hy e =
-    let h : to_bits binary64 x ≡ to_bits binary64 y = cc e in
-    let t : map (to_bits binary64) xs ≡ map (to_bits binary64) ys = cc e in
-    λ i. bits_injective x y (hx 0) (hy 0) h i ∷ floats_injective xs ys (λ j. hx (suc j)) (λ j. hy (suc j)) t i
-
 pub zero_float : (x : Float) → T (fits binary64 x) → is_zero x ≡ true → x ≡ zero64
 zero_float x h e = sym (of_bits-to_bits binary64 x h) ∙ ap (of_bits binary64) (eqb-true (to_bits binary64 x) 0 e)
-
-pub is_zero64 : is_zero zero64 ≡ true
-unfolding to_bits of_bits
-is_zero64 = refl
 
 pub zeros : (fs : List Float) → FloatsFit fs → all is_zero fs ≡ true → fs ≡ replicate (length fs) zero64
 zeros [] h e = refl

@@ -14,6 +14,6 @@ pub mod Places
 pub mod Inserting
 pub mod Serving
 pub mod BufferLaws
-pub mod Chunks
+pub mod ChunkTests
 pub mod Ascending
-pub mod RowSoundLoops
+pub mod SoundTests

@@ -6,7 +6,7 @@ use mathlib.Core.Bool.{Bool, true, false, cond, ◌&&◌}
 use Rattle.std.specs.Prelude.{None, Some}
 use mathlib.Core.List.{[], ◌∷◌}
 use native.Mathlib.Omega.{arith}
-use lib.ListN.{length, get_or}
+use lib.ListN.{length, get_or, drop}
 use lib.Dec.{eqb, ltb}
 use borrow.Author.Tests.{lt-ltb, le-ltb, eq-eqb, ne_eqb, ltb-true, eqb-true, eqb-false}
 use Rattle.buffer.specs.Map.{Map, all, keys, get, put, keep, rising}
@@ -76,6 +76,11 @@ module _ {A : Type 0} where
   rising_keep ok (x ∷ m) r =
       let ih = rising_keep ok m r.1 in
       both (ok x.0) (λ e. rw e (floor_keep x.0 ok m r.0, ih)) (λ e. rw e ih)
+
+  pub rising_drop : (k : ℕ) (m : Map A) → Rising m → Rising (drop k m)
+  rising_drop zero m r = r
+  rising_drop (suc k) [] r = tt
+  rising_drop (suc k) (x ∷ m) r = rising_drop k m r.1
 
   floor_at : (k : ℕ) (m : Map A) (i : ℕ) (d : ℕ × A) → Floor k m → i < length m → k < (get_or m i d).0
   floor_at k [] i d f h = absurd (omega arith)
@@ -178,17 +183,6 @@ module _ {A : Type 0} where
           let a = le-ltb k x.0 (omega arith) in
           let b = ne_eqb k x.0 (λ e. omega arith) in
           rw (a, b, a, b) (ap {B = Map A} (λ r. x ∷ r) ih)
-
-  pub put_other : (j k : ℕ) (v w : A) (m : Map A) → Rising m → (j ≡ k → ⊥) → put k w (put j v m) ≡ put j v (put k w m)
-  put_other j k v w m r n =
-      ext (put k w (put j v m)) (put j v (put k w m)) (rising_put k w (put j v m) (rising_put j v m r)) (rising_put j v (put k w m) (rising_put k w m r)) at_each
-    where
-      at_each : (i : ℕ) → get (put k w (put j v m)) i ≡ get (put j v (put k w m)) i
-      at_each i =
-          rw (get_put k w (put j v m) i, get_put j v (put k w m) i, get_put j v m i, get_put k w m i)
-          (both (eqb k i)
-          (λ p. let q : eqb j i ≡ false = ne_eqb j i (λ e. n (e ∙ sym (eqb-true k i p))) in rw (p, q))
-          (λ p. rw p))
 
   pub keep_all : (ok : ℕ → Bool) (m : Map A) → all (λ x. ok x.0) m ≡ true → keep ok m ≡ m
   keep_all ok [] h = refl

@@ -1,12 +1,12 @@
--- What loops that clear or move a slice's elements have done after each turn, over any element type.
-use mathlib.Core.Path.{◌≡◌, refl, sym, ap, ◌∙◌}
-use mathlib.Core.List.{List, [], ◌∷◌, ◌++◌, append-nil, append_assoc}
+-- What the loops that move a slice's elements have done after each turn, and what is written over, put in and taken out.
+use mathlib.Core.Path.{◌≡◌, sym, ap, ◌∙◌}
+use mathlib.Core.List.{List, [], ◌∷◌, ◌++◌, append_assoc}
 use Prim.Native.Nat.{ℕ, zero, suc, ◌+◌, ◌-◌, ◌≤◌, ◌<◌}
-use native.Mathlib.Nat.{not-suc-le-zero, le_of_suc-le-suc, le_of_eq, suc-add}
-use native.Mathlib.Numerals.{add-one, sub-one}
+use native.Mathlib.Nat.{not-suc-le-zero, suc-add}
+use native.Mathlib.Numerals.{sub-one}
 use native.Mathlib.Omega.{arith}
-use lib.ListN.{length, set, take, drop, get_or, replicate, drop_of_length-le, length-append, length-take, length-drop, get_or-append, take-append-drop}
-use lib.Seq.{take-suc, drop-cons, set_at, length-take-le, get_or-take, get_or-drop, get_or-append-add, take-append-le, take-take, drop-drop, drop_at, take_at, set_split}
+use lib.ListN.{length, set, take, drop, get_or, replicate, length-append, length-take, length-drop, length-replicate, get_or-append, take-append-drop}
+use lib.Seq.{take-suc, drop-cons, set_at, length-take-le, get_or-take, get_or-drop, get_or-append-add, take-append-le, take-take, drop-drop, drop_at, take_at}
 use borrow.Rule.Slice.PartMut.{mid_of, put_mid}
 use Rattle.buffer.specs.Words.{moved_up, moved_down, replaced, inserted, removed}
 
@@ -14,19 +14,6 @@ sub_suc : (j e : ℕ) → j < e → e - j ≡ suc (e - suc j)
 sub_suc j e h = omega arith
 
 module _ {A : Type 0} where
-  -- ---- clearing: after n turns `replicate n v ++ drop n d`
-
-  fill_suc : (n : ℕ) (v : A) (d : List A) → n < length d → set (replicate n v ++ drop n d) n v ≡ replicate (suc n) v ++ drop (suc n) d
-  fill_suc n v [] l = absurd (not-suc-le-zero l)
-  fill_suc zero v (x ∷ d) l = refl
-  fill_suc (suc n) v (x ∷ d) l = ap {B = List A} (λ t. v ∷ t) (fill_suc n v d (le_of_suc-le-suc l))
-
-  pub fill_more : (n : ℕ) (v : A) (d : List A) → n < length d → set (replicate n v ++ drop n d) n v ≡ replicate (n + 1) v ++ drop (n + 1) d
-  fill_more n v d l = rw add-one (fill_suc n v d l)
-
-  pub fill_all : (n : ℕ) (v : A) (d : List A) → length d ≡ n → replicate n v ++ drop n d ≡ replicate (length d) v
-  fill_all n v d e = rw (e, drop_of_length-le d {i = n} (le_of_eq e), append-nil)
-
   -- ---- moving up, from the last element: `moved_up i end gap` where the elements from i on are moved
 
   pub up_none : (e g : ℕ) (l : List A) → l ≡ moved_up e e g l
@@ -53,10 +40,11 @@ module _ {A : Type 0} where
       let n : length (take (j + g) l) ≡ j + g = length-take-le (j + g) l (omega arith) in
       rw (v, t, append_assoc (take (j + g) l) (get_or l (j + g) d ∷ []) R, set_at (take (j + g) l) (get_or l (j + g) d) R (get_or l j d) (j + g) n, r)
 
-  pub up_more : (i e g : ℕ) (d : A) (l : List A) → 0 < i → i ≤ e → e + g ≤ length l
-      → set (moved_up i e g l) (i - 1 + g) (get_or (moved_up i e g l) (i - 1) d) ≡ moved_up (i - 1) e g l
-  up_more (suc j) e g d l p h k = rw sub-one (up_suc j e g d l h k)
-  up_more zero e g d l p h k = absurd (not-suc-le-zero p)
+  -- m is the slice so far, and v its element that moves next
+  pub up_more : (i e g : ℕ) (l m : List A) (v : A) → 0 < i → i ≤ e → e + g ≤ length l
+      → m ≡ moved_up i e g l → v ≡ get_or m (i - 1) v → set m (i - 1 + g) v ≡ moved_up (i - 1) e g l
+  up_more (suc j) e g l m v p h k q r = rw (r, q, sub-one) (up_suc j e g v l h k)
+  up_more zero e g l m v p h k q r = absurd (not-suc-le-zero p)
 
   -- ---- moving down, from the first element: `moved_down gap i` where the elements below i are moved
 
@@ -66,14 +54,10 @@ module _ {A : Type 0} where
       let z : g - g ≡ 0 = omega arith in
       rw z
 
-  pub length_down : (g e : ℕ) (l : List A) → g ≤ e → e ≤ length l → length (moved_down g e l) ≡ length l
-  unfolding moved_down
-  length_down g e l h k = simp (length-append, length-take, length-drop) (omega arith)
-
-  pub down_more : (g i : ℕ) (d : A) (l : List A) → g ≤ i → i < length l
+  down_next : (g i : ℕ) (d : A) (l : List A) → g ≤ i → i < length l
       → set (moved_down g i l) (i - g) (get_or (moved_down g i l) i d) ≡ moved_down g (i + 1) l
   unfolding moved_down
-  down_more g i d l h k =
+  down_next g i d l h k =
       let j : ℕ = i - g in
       let P : List A = take j (drop g l) in
       let n : length P ≡ j = length-take-le j (drop g l) (rw length-drop (omega arith)) in
@@ -84,6 +68,10 @@ module _ {A : Type 0} where
       let t : take (suc j) (drop g l) ≡ P ++ (get_or l i d ∷ []) = take-suc (drop g l) j d (rw length-drop (omega arith)) ∙ rw w in
       let c : drop j l ≡ get_or l j d ∷ drop (suc j) l = drop-cons l j d (omega arith) in
       rw (r, s, t, c, set_at P (get_or l j d) (drop (suc j) l) (get_or l i d) j n, append_assoc P (get_or l i d ∷ []) (drop (suc j) l))
+
+  pub down_more : (g i : ℕ) (l m : List A) (v : A) → g ≤ i → i < length l
+      → m ≡ moved_down g i l → v ≡ get_or m i v → set m (i - g) v ≡ moved_down g (i + 1) l
+  down_more g i l m v h k q r = rw (r, q) (down_next g i v l h k)
 
   -- ---- a part written over, as a `&mut` part leaves it
 
@@ -101,12 +89,23 @@ module _ {A : Type 0} where
       take-append-le at (take (at + g) l) R (omega arith) ∙ take-take at (at + g) l (omega arith) in
       rw (q, a, drop_at (take (at + g) l) R (at + g) n)
 
-  pub up_set : (at e : ℕ) (l : List A) (v : A) → at ≤ e → e + 1 ≤ length l → set (moved_up at e 1 l) at v ≡ inserted at e (v ∷ []) l
-  unfolding replaced
-  up_set at e l v h k =
-      let m : List A = moved_up at e 1 l in
-      let n : length m ≡ length l = length_up at e 1 l h k in
-      set_split m at v (omega arith) ∙ ap (λ (i : ℕ). take at m ++ v ∷ drop i m) (sym (add-one at)) ∙ up_put at e 1 l (v ∷ []) refl h k
+  -- the same as the code leaves it: c in the part that begins at `at`, whose width is w there
+  pub put_inserted : (at e g w : ℕ) (l m v c : List A) → at ≤ e → e + g ≤ length l → w ≡ g → length v ≡ g
+      → m ≡ moved_up at e g l → c ≡ v → put_mid at w m c ≡ inserted at e v l
+  put_inserted at e g w l m v c h k n q p r = rw (n, p, r) (put_replaced at g v (moved_up at e g l) q ∙ up_put at e g l v q h k)
+
+  pub zeros_inserted : (at e g w : ℕ) (z : A) (l m c : List A) → at ≤ e → e + g ≤ length l → w ≡ g
+      → m ≡ moved_up at e g l → c ≡ replicate (length (mid_of at w m)) z → put_mid at w m c ≡ inserted at e (replicate g z) l
+  zeros_inserted at e g w z l m c h k n p r =
+      let wide : at + g ≤ length m = rw (p, length_up at e g l h k) (omega arith) in
+      let s : length (mid_of at w m) ≡ g = rw n (length-take-le g (drop at m) (rw length-drop (omega arith))) in
+      put_inserted at e g w l m (replicate g z) c h k n (length-replicate g z) p (rw s at r)
+
+  pub removed_none : (g e : ℕ) (z : A) (l : List A) → g ≡ 0 → l ≡ removed g e z l
+  unfolding removed
+  removed_none g e z l q =
+      let s : e - 0 ≡ e = omega arith in
+      rw (q, s) (sym (take-append-drop e l))
 
   -- the elements that a move down leaves behind, cleared
   pub down_clear : (g e : ℕ) (z : A) (l m c : List A) → g ≤ e → e ≤ length l → m ≡ moved_down g e l

@@ -51,12 +51,6 @@ samples_back (x ∷ m) ts fs = ap {B = Samples} (λ r. x ∷ r) (samples_back m 
 pub read_back : (capacity : ℕ) (m : Samples) → samples_of (length m) (instant_words capacity m) (pose_words capacity m) ≡ m
 read_back capacity m = samples_back m (replicate (capacity - length (keys m)) 0) (replicate (7 * capacity - length (poses_of m)) zero64)
 
-pub words_injective : (capacity : ℕ) (m n : Samples) → length m ≡ length n → instant_words capacity m ≡ instant_words capacity n → pose_words capacity m ≡ pose_words capacity n → m ≡ n
-words_injective capacity m n l e f =
-    sym (read_back capacity m)
-    ∙ (λ i. samples_of (l i) (e i) (f i))
-    ∙ read_back capacity n
-
 -- after the held words there are zeros
 pub words_unused : (capacity : ℕ) (m : Samples) → unused_zero (length m) (instant_words capacity m) (pose_words capacity m) ≡ true
 words_unused capacity m =
@@ -120,8 +114,3 @@ module _ (n : ℕ) (ts : List ℕ) (fs : List Float) (h : n ≤ length ts) (z : 
       let q = sym (held_poses n ts fs k) in
       padded_is (7 * n) zero64 fs k (zeros (drop (7 * n) fs) (fit_drop (7 * n) fs f) (and_right (all (eqb 0) (drop n ts)) _ z))
       ∙ (λ i. padded (l i) zero64 (q i))
-
--- what this layer asks of its caller makes a row the words of its samples
-pub row_words_lem : (n : ℕ) (ts : List ℕ) (fs : List Float) → Row n ts fs → FloatsFit fs
-    → (ts ≡ instant_words (length ts) (samples_of n ts fs)) × (fs ≡ pose_words (length ts) (samples_of n ts fs))
-row_words_lem n ts fs r f = (instants_are n ts fs r.fits r.unused, poses_are n ts fs r.fits r.unused r.sevens f)

@@ -1,13 +1,13 @@
 -- A row's words as blocks, and where each sample lies in them.
-use Prim.Native.Nat.{ℕ, zero, suc, ◌+◌, ◌*◌, ◌≤◌, ◌<◌}
+use Prim.Native.Nat.{ℕ, zero, suc, ◌+◌, ◌*◌, ◌<◌}
 use mathlib.Core.Path.{◌≡◌, refl, ap, ◌∙◌}
 use mathlib.Core.List.{List, [], ◌∷◌}
 use native.Mathlib.Nat.{not-suc-le-zero, le_of_suc-le-suc, one-mul}
 use native.Mathlib.Omega.{arith}
-use lib.ListN.{length, get_or, set, take, drop, length-drop}
-use lib.Seq.{get_or-take, get_or-drop, drop-drop}
-use lib.Ieee.{Float, nan}
-use Rattle.time.specs.Float.{zero64}
+use lib.ListN.{get_or, take, drop}
+use lib.Seq.{get_or-drop, drop-drop}
+use lib.Ieee.{Float}
+use Rattle.std.specs.Simd.{first_chunks}
 use Rattle.geometry.specs.declared.isometry.Isometry.{Isometry}
 use Rattle.buffer.specs.Map.{keys}
 use Rattle.buffer.specs.Samples.{Samples}
@@ -16,41 +16,24 @@ use Rattle.buffer.proofs.Strides.{blocks}
 
 -- ---- one pose
 
--- seven stores fill a chunk of seven
-pub seven_stores : {A : Type 0} (l : List A) (a b c d e f g : A) → length l ≡ 7
-    → set (set (set (set (set (set (set l 0 a) 1 b) 2 c) 3 d) 4 e) 5 f) 6 g ≡ a ∷ b ∷ c ∷ d ∷ e ∷ f ∷ g ∷ []
-seven_stores [] a b c d e f g h = absurd (omega arith)
-seven_stores (_ ∷ []) a b c d e f g h = absurd (omega arith)
-seven_stores (_ ∷ _ ∷ []) a b c d e f g h = absurd (omega arith)
-seven_stores (_ ∷ _ ∷ _ ∷ []) a b c d e f g h = absurd (omega arith)
-seven_stores (_ ∷ _ ∷ _ ∷ _ ∷ []) a b c d e f g h = absurd (omega arith)
-seven_stores (_ ∷ _ ∷ _ ∷ _ ∷ _ ∷ []) a b c d e f g h = absurd (omega arith)
-seven_stores (_ ∷ _ ∷ _ ∷ _ ∷ _ ∷ _ ∷ []) a b c d e f g h = absurd (omega arith)
-seven_stores (_ ∷ _ ∷ _ ∷ _ ∷ _ ∷ _ ∷ _ ∷ []) a b c d e f g h = refl
-seven_stores (_ ∷ _ ∷ _ ∷ _ ∷ _ ∷ _ ∷ _ ∷ _ ∷ l) a b c d e f g h = absurd (omega arith)
+-- a pose is read from the first seven floats
+pub pose_front : (fs : List Float) → pose_of (take 7 fs) ≡ pose_of fs
+pose_front [] = refl
+pose_front (a ∷ []) = refl
+pose_front (a ∷ b ∷ []) = refl
+pose_front (a ∷ b ∷ c ∷ []) = refl
+pose_front (a ∷ b ∷ c ∷ d ∷ []) = refl
+pose_front (a ∷ b ∷ c ∷ d ∷ e ∷ []) = refl
+pose_front (a ∷ b ∷ c ∷ d ∷ e ∷ f ∷ []) = refl
+pose_front (a ∷ b ∷ c ∷ d ∷ e ∷ f ∷ g ∷ fs) = refl
 
--- what stands within a list does not hang on the default
-read_any : {A : Type 0} (l : List A) (i : ℕ) (d e : A) → i < length l → get_or l i d ≡ get_or l i e
-read_any [] i d e h = absurd (not-suc-le-zero h)
-read_any (x ∷ l) zero d e h = refl
-read_any (x ∷ l) (suc i) d e h = read_any l i d e (le_of_suc-le-suc h)
-
--- the pose that the code reads from a chunk of seven
-abbrev pub pose_read : List Float → Isometry
-pose_read l = record {
-  translation = record { x = get_or l 0 nan; y = get_or l 1 nan; z = get_or l 2 nan };
-  rotation = record { w = get_or l 3 nan; x = get_or l 4 nan; y = get_or l 5 nan; z = get_or l 6 nan };
-}
-
-pub pose_read_lem : (at w : ℕ) (fs : List Float) → w ≡ 7 → at + 7 ≤ length fs → pose_read (take w (drop at fs)) ≡ pose_of (drop at fs)
-pose_read_lem at w fs q h =
-    λ i. record {
-      translation = record { x = one 0 (omega arith) i; y = one 1 (omega arith) i; z = one 2 (omega arith) i };
-      rotation = record { w = one 3 (omega arith) i; x = one 4 (omega arith) i; y = one 5 (omega arith) i; z = one 6 (omega arith) i };
-    }
-  where
-    one : (k : ℕ) → k < 7 → get_or (take w (drop at fs)) k nan ≡ get_or (drop at fs) k zero64
-    one k p = get_or-take w (drop at fs) k nan (omega arith) ∙ read_any (drop at fs) k nan zero64 (rw length-drop (omega arith))
+-- the pose at a place, where the floats are read by sevens
+pub pose_at : (n : ℕ) (fs : List Float) (k : ℕ) (d : List Float) → k < n → pose_of (get_or (first_chunks 7 n fs) k d) ≡ pose_of (drop (7 * k) fs)
+pose_at zero fs k d h = absurd (not-suc-le-zero h)
+pose_at (suc n) fs zero d h = pose_front fs
+pose_at (suc n) fs (suc k) d h =
+    let q : 7 + 7 * k ≡ 7 * suc k = omega arith in
+    pose_at n (drop 7 fs) k d (le_of_suc-le-suc h) ∙ ap pose_of (drop-drop (7 * k) 7 fs ∙ ap (λ (i : ℕ). drop i fs) q)
 
 -- ---- a row
 

@@ -124,9 +124,6 @@ newest_expire age m = newest_keep (survives age (newest m)) m (survives_self age
 pub get_expire : (age : Option ℕ) (m : Samples) (j : ℕ) → get (expire age m) j ≡ cond (survives age (newest m) j) (get m j) None
 get_expire age m j = get_keep (survives age (newest m)) m j
 
-pub expire_fresh : (age : Option ℕ) (m : Samples) → Fresh age m → expire age m ≡ m
-expire_fresh age m h = keep_all (survives age (newest m)) m h
-
 pub fresh_expire : (age : Option ℕ) (m : Samples) → Fresh age (expire age m)
 fresh_expire age m = rw (newest_expire age m) (all_kept (survives age (newest m)) m)
 
@@ -162,9 +159,6 @@ pub all_insert : (test : ℕ × Isometry → Bool) (age : Option ℕ) (i : ℕ) 
     → test (i, p) ≡ true → all test m ≡ true → all test (insert age i p m) ≡ true
 all_insert test age i p m t h = all_keep test (survives age (newest (put i p m))) (put i p m) (all_put test i p m t h)
 
-pub length_insert_le : (age : Option ℕ) (i : ℕ) (p : Isometry) (m : Samples) → length (insert age i p m) ≤ suc (length m)
-length_insert_le age i p m = omega (arith, length_put_le i p m, length_keep_le (survives age (newest (put i p m))) (put i p m))
-
 -- an insertion after an insertion: the first expires with the second's newest too
 pub get_insert_twice : (age : Option ℕ) (i j : ℕ) (p q : Isometry) (m : Samples) (k : ℕ)
     → get (insert age j q (insert age i p m)) k
@@ -192,42 +186,6 @@ insert_other age i j p q m r n =
         (both (eqb j k)
         (λ h. rw (h, ne_eqb i k (λ z. n (z ∙ sym (eqb-true j k h)))))
         (λ h. rw h))
-
--- of two at one instant the second replaces the first
-pub insert_again : (age : Option ℕ) (i : ℕ) (p q : Isometry) (m : Samples) → Rising m → insert age i q (insert age i p m) ≡ insert age i q m
-insert_again age i p q m r =
-    ext (insert age i q (insert age i p m)) (insert age i q m)
-    (rising_insert age i q (insert age i p m) (rising_insert age i p m r))
-    (rising_insert age i q m r)
-    at_each
-  where
-    at_each : (k : ℕ) → get (insert age i q (insert age i p m)) k ≡ get (insert age i q m) k
-    at_each k =
-        let e : max i (max i (newest m)) ≡ max i (newest m) = omega arith in
-        rw (get_insert_twice age i i p q m k, get_insert_lem age i q m k, e)
-        (both (eqb i k) (λ h. rw h) (λ h. rw h))
-
--- one that survives is held
-pub insert_held : (age : Option ℕ) (i : ℕ) (p : Isometry) (m : Samples) → survives age (newest m) i ≡ true → get (insert age i p m) i ≡ Some p
-insert_held age i p m h = get_insert_lem age i p m i ∙ rw (eq-eqb i i refl, alive (tri i (newest m)))
-  where
-    alive : Tri i (newest m) → survives age (max i (newest m)) i ≡ true
-    alive (less l) = let e : max i (newest m) ≡ newest m = omega arith in rw e h
-    alive (same l) = let e : max i (newest m) ≡ newest m = omega arith in rw e h
-    alive (more l) = let e : max i (newest m) ≡ i = omega arith in rw e (survives_self age i)
-
--- a late one already too old is not held, and nothing else changes
-pub insert_late : (age : Option ℕ) (i : ℕ) (p : Isometry) (m : Samples) → Fresh age m → survives age (newest m) i ≡ false → insert age i p m ≡ m
-insert_late age i p m f h =
-    let e : newest (put i p m) ≡ newest m = newest_put i p m ∙ below (tri i (newest m)) in
-    ap (λ (n : ℕ). keep (survives age n) (put i p m)) e
-    ∙ keep_put_dropped (survives age (newest m)) i p m h
-    ∙ keep_all (survives age (newest m)) m f
-  where
-    below : Tri i (newest m) → max i (newest m) ≡ newest m
-    below (less l) = omega arith
-    below (same l) = omega arith
-    below (more l) = absurd (false_true (sym h ∙ survives_up age (newest m) (newest m) i (omega arith) (survives_self age (newest m))))
 
 pub insert_empty : (age : Option ℕ) (i : ℕ) (p : Isometry) → insert age i p [] ≡ (i, p) ∷ []
 insert_empty age i p = let e : max i 0 ≡ i = omega arith in rw (e, survives_self age i)
@@ -258,28 +216,3 @@ all_remove_before test Dynamic i m h = all_keep test (leb i) m h
 pub length_remove_before_le : (k : Kind) (i : ℕ) (m : Samples) → length (remove_before k i m) ≤ length m
 length_remove_before_le Static i m = omega arith
 length_remove_before_le Dynamic i m = length_keep_le (leb i) m
-
-pub newest_remove_before : (k : Kind) (i : ℕ) (m : Samples) → i ≤ newest m → newest (remove_before k i m) ≡ newest m
-newest_remove_before Static i m h = refl
-newest_remove_before Dynamic i m h = newest_keep (leb i) m (le-leb i (newest m) h)
-
--- a wipe above the newest empties a moving row
-pub remove_before_empties : (i : ℕ) (m : Samples) → newest m < i → remove_before Dynamic i m ≡ []
-remove_before_empties i [] h = refl
-remove_before_empties i (x ∷ m) h = rw (lt-leb i x.0 (omega arith)) (remove_before_empties i m (omega arith))
-
--- of two wipes the later instant counts
-pub remove_before_twice : (k : Kind) (i j : ℕ) (m : Samples) → remove_before k j (remove_before k i m) ≡ remove_before k (max i j) m
-remove_before_twice Static i j m = refl
-remove_before_twice Dynamic i j m = keep_keep (leb j) (leb i) m ∙ ap {A = ℕ → Bool} (λ ok. keep ok m) (λ t k. two_tests k t)
-  where
-    two_tests : (k : ℕ) → (leb i k && leb j k) ≡ leb (max i j) k
-    two_tests k =
-        bool_ext (leb i k && leb j k) (leb (max i j) k)
-        (λ e.
-        let a = leb-true i k (and_left (leb i k) (leb j k) e) in
-        let b = leb-true j k (and_right (leb i k) (leb j k) e) in
-        le-leb (max i j) k (omega arith))
-        (λ e.
-        let a = leb-true (max i j) k e in
-        and_both (leb i k) (leb j k) (le-leb i k (omega arith)) (le-leb j k (omega arith)))

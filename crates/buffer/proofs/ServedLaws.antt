@@ -137,18 +137,6 @@ one_before x m t n = record {
   over = n.over;
 }
 
--- by index
-pub neighbours_at : (m : Samples) (i t : ℕ) (d : ℕ × Isometry) → suc i < length m → (get_or m i d).0 < t → t < (get_or m (suc i) d).0 → Neighbours m t
-neighbours_at m i t d l h k = record {
-  before = take i m;
-  below = get_or m i d;
-  above = get_or m (suc i) d;
-  after = drop (suc (suc i)) m;
-  place = split_at m i d (omega arith) ∙ ap {B = Samples} (λ r. take i m ++ (get_or m i d ∷ r)) (drop-cons m (suc i) d l);
-  under = h;
-  over = k;
-}
-
 -- an instant in the range that is not held has them
 pub neighbours : (m : Samples) (t : ℕ) → Rising m → within (range m) t ≡ true → get m t ≡ None → Neighbours m t
 neighbours [] t r w g = absurd (false_true w)

@@ -11,14 +11,13 @@ use lib.ListN.{length, get_or, take, drop}
 use lib.Seq.{split_at, drop-cons}
 use lib.Ieee.{Float}
 use borrow.Author.Tests.{lt-leb}
-use Rattle.time.specs.Float.{◌⊘◌}
 use Rattle.time.specs.Reply.{Reply, Carried, answer, refusal, hop}
-use Rattle.time.specs.Timestamp.{as_secs_f64}
+use Rattle.time.proofs.Replies.{refusal_answer}
 use Rattle.geometry.specs.declared.isometry.Isometry.{Isometry}
-use Rattle.geometry.specs.Isometry.{between, interpolated}
+use Rattle.geometry.specs.Isometry.{interpolated}
 use Rattle.buffer.specs.declared.kind.Kind.TheVariants.{Static, Dynamic}
 use Rattle.buffer.specs.Map.{get}
-use Rattle.buffer.specs.Samples.{Samples, served}
+use Rattle.buffer.specs.Samples.{Samples, range, served}
 use Rattle.buffer.specs.Row.{pose_of, samples_of, below, Row}
 use Rattle.buffer.proofs.Maps.{Rising, get_at}
 use Rattle.buffer.proofs.RangeLaws.{within}
@@ -64,21 +63,18 @@ module _ (n : ℕ) (ts : List ℕ) (fs : List Float) (row : Row n ts fs) (t k : 
       let a : (get_or held k default).0 ≡ t = ap (λ (x : ℕ × Isometry). x.0) s ∙ e in
       served_held child held t (pose_of (drop (7 * k) fs)) (ap (get held) (sym a) ∙ g ∙ ap (λ (x : ℕ × Isometry). Some x.1) s)
 
-  outside : 0 < n → within (Some (get_or ts 0 0, get_or ts (n - 1) 0)) t ≡ false
-      → served child Dynamic held t ≡ refusal 11 (hop child (Some (get_or ts 0 0, get_or ts (n - 1) 0)))
-  outside h w =
-      let r = range_held n ts fs (row_held n ts fs row) h in
-      served_outside child held t rises (ap (λ (o : Option (ℕ × ℕ)). within o t) r ∙ w) ∙ ap (λ (o : Option (ℕ × ℕ)). refusal 11 (hop child o)) r
+  -- outside the range: before the first instant, and after the last
+  outside : 0 < n → within (Some (get_or ts 0 0, get_or ts (n - 1) 0)) t ≡ false → served child Dynamic held t ≡ refusal 11 (hop child (range held))
+  outside h w = served_outside child held t rises (ap (λ (o : Option (ℕ × ℕ)). within o t) (range_held n ts fs (row_held n ts fs row) h) ∙ w)
 
-  -- before the first instant, and after the last
-  pub too_early : 0 < n → k ≡ 0 → (get_or ts k 0 ≡ t → ⊥) → served child Dynamic held t ≡ refusal 11 (hop child (Some (get_or ts 0 0, get_or ts (n - 1) 0)))
+  pub too_early : 0 < n → k ≡ 0 → (get_or ts k 0 ≡ t → ⊥) → served child Dynamic held t ≡ refusal 11 (hop child (range held))
   too_early h z ne = outside h (rw (lt-leb (get_or ts 0 0) t (first (rw z at ne))))
     where
       first : (get_or ts 0 0 ≡ t → ⊥) → t < get_or ts 0 0
       first ne = let l = above_at 0 (omega arith) h in omega arith
 
-  pub too_late_lem : 0 < n → k ≡ n → served child Dynamic held t ≡ refusal 11 (hop child (Some (get_or ts 0 0, get_or ts (n - 1) 0)))
-  too_late_lem h z =
+  pub too_late : 0 < n → k ≡ n → served child Dynamic held t ≡ refusal 11 (hop child (range held))
+  too_late h z =
       let l = below_at (n - 1) (omega arith) in
       outside h (rw (lt-leb t (get_or ts (n - 1) 0) l) (and-false (leb (get_or ts 0 0) t)))
 
@@ -107,7 +103,4 @@ module _ (n : ℕ) (ts : List ℕ) (fs : List Float) (row : Row n ts fs) (t k : 
   never_refused z h a b r e j c f =
       let u = below_at (k - 1) (omega arith) in
       let v = above_at k (omega arith) h in
-      let w : answer (between a b (as_secs_f64 (t - get_or ts (k - 1) 0) ⊘ as_secs_f64 (get_or ts k 0 - get_or ts (k - 1) 0))) ≡ refusal j c =
-      sym (e ∙ interpolated_answers a b (get_or ts (k - 1) 0) (get_or ts k 0) t (omega arith) (omega arith)) ∙ f in
-      let no : ◌≡◌ {A = ℕ} 0 1 = cc w in
-      omega arith
+      refusal_answer (sym f ∙ e ∙ interpolated_answers a b (get_or ts (k - 1) 0) (get_or ts k 0) t (omega arith) (omega arith))

@@ -70,12 +70,6 @@ module _ {X A : Type 0} (f : X → List A) (w : ℕ) (u : (x : X) → length (f 
   abbrev pub blocks : List X → List A
   blocks xs = padded (w * capacity) z (concat_map f xs)
 
-  pub length_blocks : (xs : List X) → length xs ≤ capacity → length (blocks xs) ≡ w * capacity
-  length_blocks xs h =
-      let n : length (concat_map f xs) ≡ w * length xs = length_concat f w u xs in
-      let le : w * length xs ≤ w * capacity = mul-le-mul_left w h in
-      simp (length-append, length-replicate) (omega arith)
-
   -- a block put in at k
   pub insert_block : (k : ℕ) (y : X) (xs : List X) → k ≤ length xs
       → inserted (w * k) (w * length xs) (f y) (blocks xs) ≡ blocks (take k xs ++ y ∷ drop k xs)

@@ -1,35 +1,23 @@
--- Document 01's number and values for each case of this crate's enums.
-use Rattle.std.specs.Prelude.{ℕ}
-use Rattle.std.specs.Prelude.{Option, None, Some}
-use Rattle.time.specs.Reply.{Reply, answer, refusal, nothing, hop}
-use Rattle.geometry.specs.declared.isometry.Isometry.{Isometry}
-use Rattle.buffer.specs.declared.max_age.MaxAge.{MaxAge}
-use Rattle.buffer.specs.declared.max_age.MaxAge.TheVariants as max
-use Rattle.buffer.specs.declared.get.Served.{Served}
-use Rattle.buffer.specs.declared.get.Served.TheVariants as served
-use Rattle.buffer.specs.declared.get.Got.{Got}
-use Rattle.buffer.specs.declared.get.Got.TheVariants as got
-use Rattle.buffer.specs.declared.insert.Inserted.{Inserted}
-use Rattle.buffer.specs.declared.insert.Inserted.TheVariants as inserted
-
--- the age, if there is one
-abbrev pub age_of : MaxAge → Option ℕ
-age_of max.Unlimited = None
-age_of (max.Nanos age) = Some age
+-- Document 01's number and values for each case of this crate's errors.
+use Rattle.std.specs.Prelude.{ℕ, None, Some, ⊤}
+use Rattle.time.specs.Reply.{Carried, nothing, hop}
+use Rattle.geometry.specs.Answers.{refusal_of as transform_refusal_of}
+use Rattle.buffer.specs.declared.error.GetError.{GetError}
+use Rattle.buffer.specs.declared.error.GetError.TheVariants as get
+use Rattle.buffer.specs.declared.error.InsertError.{InsertError}
+use Rattle.buffer.specs.declared.error.InsertError.TheVariants as insert
 
 -- of the hop with this child
-abbrev pub served_reply : ℕ → Served → Reply Isometry
-served_reply child (served.Pose p) = answer p
-served_reply child (served.OutOfRange start end) = refusal 11 (hop child (Some (start, end)))
-served_reply child served.NoTransformAvailable = refusal 11 (hop child None)
+abbrev pub refusal_of : ℕ → GetError → ℕ × Carried
+refusal_of child get.NoTransformAvailable = (11, hop child None)
+refusal_of child (get.OutOfRange start end) = (11, hop child (Some (start, end)))
+refusal_of child (get.Interpolation e) = transform_refusal_of e
 
-abbrev pub got_reply : ℕ → Got → Reply Isometry
-got_reply child (got.Pose p) = answer p
-got_reply child (got.OutOfRange start end) = refusal 11 (hop child (Some (start, end)))
-got_reply child got.NoTransformAvailable = refusal 11 (hop child None)
-got_reply child got.NonFiniteValues = refusal 3 nothing
+-- an error that is refusal 11, and none of the interpolation
+abbrev pub IsUnserved : GetError → Type 0
+IsUnserved get.NoTransformAvailable = ⊤
+IsUnserved (get.OutOfRange start end) = ⊤
+IsUnserved (get.Interpolation e) = ⊥
 
--- how many samples are held
-abbrev pub inserted_reply : Inserted → Reply ℕ
-inserted_reply (inserted.Held count) = answer count
-inserted_reply inserted.RowFull = refusal 17 nothing
+abbrev pub insert_refusal_of : InsertError → ℕ × Carried
+insert_refusal_of insert.RowFull = (17, nothing)

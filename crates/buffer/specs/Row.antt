@@ -1,8 +1,8 @@
 -- The words of one row: its S instants and its 7 x S floats, with the held samples first and zeros after them.
-use Rattle.std.specs.Prelude.{ℕ, zero, suc, ◌-◌, ◌*◌, ◌≤◌, ◌≡◌, Bool, true, cond, ◌&&◌, List, [], ◌∷◌, ◌++◌, length, get_or, take, drop, replicate, T, leb, ltb, eqb, Float}
+use Rattle.std.specs.Prelude.{ℕ, zero, suc, ◌-◌, ◌*◌, ◌≤◌, ◌≡◌, Bool, true, cond, ◌&&◌, List, [], ◌∷◌, ◌++◌, length, get_or, take, drop, replicate, T, leb, ltb, eqb, Float, refl}
 use Rattle.std.specs.Prelude.{Option}
 use Rattle.std.specs.Float.{nan, binary64}
-use Rattle.std.specs.Float.Ieee.{fits, to_bits}
+use Rattle.std.specs.Float.Ieee.{fits, to_bits, of_bits}
 use Rattle.time.specs.Float.{zero64}
 use Rattle.time.specs.Reply.{Reply, answer, refusal, nothing}
 use Rattle.geometry.specs.declared.isometry.Isometry.{Isometry}
@@ -61,6 +61,10 @@ poses_sound m = all (λ x. is_valid x.1) m
 -- all 64 bits are 0: positive zero
 abbrev pub is_zero : Float → Bool
 is_zero x = eqb (to_bits binary64 x) 0
+
+pub is_zero64 : is_zero zero64 ≡ true
+unfolding to_bits of_bits
+is_zero64 = refl
 
 -- "every unused word is 0, positive zero for floats"
 abbrev pub unused_zero : ℕ → List ℕ → List Float → Bool

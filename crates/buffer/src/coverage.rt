@@ -1,32 +1,21 @@
 // The times at which a row is served.
-ghost use Rattle.std.specs.Prelude.{◌≡◌, List, Float};
+ghost use Rattle.std.specs.Prelude.{◌≡◌};
 ghost use Rattle.buffer.specs.Samples.{coverage};
-ghost use Rattle.buffer.specs.Row.{Instants, samples_of};
+ghost use Rattle.buffer.specs.Buffers.{samples};
 
-use super::kind::Kind;
+use super::buffer::Buffer;
 
-#[derive(Clone, Copy)]
+#[derive(Clone, Copy, Debug, PartialEq, Eq)]
 pub enum Coverage {
     AllTime,
     Range { start: u64, end: u64 },
     Empty,
 }
 
-impl Coverage {
-    pub fn of(instants: &[u64], kind: Kind, count: usize) -> Coverage
-        requires { Instants count instants.now }
-        ensures { (poses : List Float) → result ≡ coverage kind (samples_of count instants.now poses) }
+impl Buffer<'_> {
+    pub fn coverage(&self) -> Coverage
+        ensures { result ≡ coverage self.now.kind (samples self.now) }
     {
-        if let Kind::Static = kind {
-            return Coverage::AllTime;
-        }
-        if count == 0 {
-            return Coverage::Empty;
-        }
-        let last = count - 1;
-        Coverage::Range {
-            start: instants[0],
-            end: instants[last],
-        }
+        self.times().coverage(self.kind)
     }
 }

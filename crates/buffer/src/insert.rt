@@ -1,90 +1,79 @@
 // Insertion with expiry.
-ghost use Rattle.std.specs.Prelude.{◌≡◌, List, ℕ, max, leb, Float};
-ghost use Rattle.std.specs.Prelude.{None};
+ghost use Rattle.std.specs.Prelude.{◌≡◌, ℕ, leb, max, None, OnErr};
+ghost use Rattle.time.specs.Reply.{reply_by, answer, ◌then◌};
 ghost use Rattle.buffer.specs.Samples.{newest, survives};
-ghost use Rattle.buffer.specs.Row.{Row, Instants, samples_of, outcome, insert_row};
-ghost use Rattle.buffer.specs.Answers.{age_of, inserted_reply};
+ghost use Rattle.buffer.specs.Row.{outcome, insert_row};
+ghost use Rattle.buffer.specs.Answers.{insert_refusal_of};
+ghost use Rattle.buffer.specs.Buffers.{samples, SameRow};
 
-use super::kind::Kind;
-use super::max_age::MaxAge;
-use super::{place, pose, remove_before, words};
+use super::buffer::{Buffer, BufferMut};
+use super::error::InsertError;
+use super::{pose, words};
 use geometry::isometry::Isometry;
 
-// How many samples the row then holds, or that they would be too many.
-#[derive(Drop)]
-pub enum Inserted {
-    Held(usize),
-    RowFull,
-}
-
-// The newest instant once t is put in.
-fn latest(instants: &[u64], count: usize, t: u64) -> u64
-    requires { Instants count instants.now }
-    ensures { (poses : List Float) → result ≡ max t (newest (samples_of count instants.now poses)) }
-{
-    if count == 0 {
-        return t;
-    }
-    let last = instants[count - 1];
-    if last < t {
-        return t;
-    }
-    last
-}
-
 // The oldest instant that survives beside the newest.
-fn oldest(max_age: MaxAge, newest: u64) -> u64
-    ensures { (i : ℕ) → survives (age_of max_age) newest i ≡ leb result i }
+fn oldest(max_age: Option<u64>, newest: u64) -> u64
+    ensures { (i : ℕ) → survives max_age newest i ≡ leb result i }
 {
-    let MaxAge::Nanos(age) = max_age else {
-        return 0;
-    };
-    if newest < age {
-        return 0;
-    }
-    newest - age
+    max_age.map_or(0, |age| newest.saturating_sub(age))
 }
 
-// Puts a sample in, whatever its age.
-fn put(instants: &mut [u64], poses: &mut [f64], count: usize, t: u64, pose: Isometry) -> Inserted
-    requires { Row count instants.old poses.old }
-    ensures { outcome (inserted_reply result) instants.new poses.new
-        ≡ insert_row None t pose count instants.old poses.old }
-{
-    let at = place::place(instants, count as u16, t) as usize;
-    if at < count {
-        if instants[at] == t {
-            pose::write_pose(poses, at, pose);
-            return Inserted::Held(count);
+impl Buffer<'_> {
+    // The newest instant once t is put in.
+    fn newest_with(&self, t: u64) -> u64
+        ensures { result ≡ max t (newest (samples self.now)) }
+    {
+        match self.times().range() {
+            None => t,
+            Some((_, last)) => t.max(last),
         }
     }
-    if count == instants.len() {
-        return Inserted::RowFull;
-    }
-    words::insert_word(instants, at, count, t);
-    pose::insert_pose(poses, at, count, pose);
-    Inserted::Held(count + 1)
 }
 
-// Drops what is too old beside the newest of all and puts the sample in, unless that is too old
-// itself. Where a sample is dropped there is room for another, so a full row is left as it came.
-pub fn insert(
-    instants: &mut [u64],
-    poses: &mut [f64],
-    count: usize,
-    max_age: MaxAge,
-    t: u64,
-    pose: Isometry,
-) -> Inserted
-    requires { Row count instants.old poses.old }
-    ensures { outcome (inserted_reply result) instants.new poses.new
-        ≡ insert_row (age_of max_age) t pose count instants.old poses.old }
-{
-    let newest = latest(instants, count, t);
-    let since = oldest(max_age, newest);
-    let kept = remove_before::remove_before(instants, poses, Kind::Dynamic, count, since);
-    if t < since {
-        return Inserted::Held(kept);
+impl BufferMut<'_> {
+    // Puts a sample in, whatever its age.
+    #[tactic(auto, using(crate::proofs::Inserting::replaces, crate::proofs::Inserting::refuses, crate::proofs::Inserting::inserts))]
+    fn put(&mut self, t: u64, pose: Isometry) -> Result<(), InsertError>
+        ensures row { SameRow self.old self.new }
+        ensures count { OnErr result (self.new.count ≡ self.old.count) }
+        ensures left { outcome (reply_by insert_refusal_of result then λ _. answer self.new.count) self.new.instants.now self.new.poses.now
+            ≡ insert_row None t pose self.old.count self.old.instants.now self.old.poses.now }
+    {
+        let at = self.view().place(t);
+        if at < self.count && self.instants[at] == t {
+            pose::write_pose(self.poses, at, pose);
+            return Ok(());
+        }
+        if self.count == self.instants.len() {
+            return Err(InsertError::RowFull);
+        }
+        let (instants, poses) = (&mut *self.instants, &mut *self.poses);
+        words::insert(instants, at, self.count, &[t]);
+        pose::insert_pose(poses, at, self.count, pose);
+        self.count += 1;
+        Ok(())
     }
-    put(instants, poses, kept, t, pose)
+
+    // Drops what is too old beside the newest of all and puts the sample in, unless that is too old
+    // itself. Where a sample is dropped there is room for another, so a full row is left as it came.
+    pub fn insert(
+        &mut self,
+        max_age: Option<u64>,
+        t: u64,
+        pose: Isometry,
+    ) -> Result<(), InsertError>
+        ensures row { SameRow self.old self.new }
+        ensures count { OnErr result (self.new.count ≡ self.old.count) }
+        ensures left { outcome (reply_by insert_refusal_of result then λ _. answer self.new.count) self.new.instants.now self.new.poses.now
+            ≡ insert_row max_age t pose self.old.count self.old.instants.now self.old.poses.now }
+    {
+        let held = self.view();
+        let since = oldest(max_age, held.newest_with(t));
+        let expired = held.place(since);
+        self.drop_first(expired);
+        if t < since {
+            return Ok(());
+        }
+        self.put(t, pose)
+    }
 }

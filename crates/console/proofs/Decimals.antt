@@ -20,10 +20,12 @@ kept (d ∷ ds) e h = ap (before d) (kept ds e h) ∙ whole ds
 
 -- a zero at the end is dropped
 pub zero_dropped : (k n : ℕ) → n % 10 ≡ 0 → without_zeros (digits 10 (suc k) n) ≡ without_zeros (digits 10 k (n / 10))
+unfolding digits without_zeros
 zero_dropped k n e = ap (λ (d : ℕ). without_zeros (digits 10 k (n / 10) ++ (digit_character d ∷ []))) e ∙ dropped (digits 10 k (n / 10))
 
 -- digits whose last is no zero stay
 pub digit_kept : (k n : ℕ) → 0 < k → (n % 10 ≡ 0 → ⊥) → without_zeros (digits 10 k n) ≡ digits 10 k n
+unfolding digits without_zeros
 digit_kept zero n h e = absurd (omega arith)
 digit_kept (suc k) n h e = kept (digits 10 k (n / 10)) (digit_character (n % 10)) other
   where
@@ -32,6 +34,7 @@ digit_kept (suc k) n h e = kept (digits 10 k (n / 10)) (digit_character (n % 10)
 
 -- digits are written behind a point
 pub behind_point : (k n : ℕ) → 0 < k → pointed (digits 10 k n) ≡ ascii "." ∷ digits 10 k n ∷ []
+unfolding digits
 behind_point zero n h = absurd (omega arith)
 behind_point (suc k) n h = some (digits 10 k (n / 10)) (digit_character (n % 10))
   where

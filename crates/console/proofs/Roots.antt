@@ -1,12 +1,12 @@
--- The lowest root from a number on, and the roots one behind the other.
-use Rattle.std.proofs.Common.{◌≡◌, ℕ, suc, ◌+◌, ◌-◌, ◌^◌, ◌<◌, ◌≤◌, Bool, true, cond, ◌&&◌, ltb, leb, List, [], ◌∷◌, refl, arith, ltb-true, lt-ltb}
-use Rattle.std.specs.Prelude.{Option, None, Some}
+-- The lowest root from a number on, and the roots one after the other.
+use Rattle.std.proofs.Common.{◌++◌, map, ltb-false, ap, ◌∙◌, ◌≡◌, ℕ, suc, ◌+◌, ◌-◌, ◌^◌, ◌<◌, ◌≤◌, Bool, true, cond, ◌&&◌, ltb, leb, [], ◌∷◌, refl, arith, ltb-true, lt-ltb}
+use Rattle.std.specs.Prelude.{Option, None, Some, min, fold, filter}
+use Rattle.std.specs.List.{reduce}
 use Rattle.buffer.specs.Map.{all}
 use Rattle.buffer.proofs.Cases.{both, none_some, and_left, and_right}
 use Rattle.buffer.proofs.Maps.{rising_is}
 use Rattle.buffer.proofs.Alls.{all_get}
-use Rattle.text.specs.Writing.{written_all}
-use Rattle.text.proofs.Behind.{behind, none as nothing}
+use Rattle.registry.specs.NextEdge.{told_edge}
 use Rattle.registry.specs.Tree.{Edge, Tree}
 use Rattle.registry.specs.Store.{Store, tree_of}
 use Rattle.registry.specs.Sound.{SoundStore}
@@ -26,6 +26,13 @@ lower_fits (Some g) p h l f q =
 cond_fits : (b : Bool) (x y : Option ℕ) → Fits x → Fits y → Fits (cond b x y)
 cond_fits b x y h k = both b (λ e. rw e h) (λ e. rw e k)
 
+-- whether a frame is a root, and not below a number
+abbrev pub is_root_from : Tree → ℕ → ℕ → Bool
+is_root_from t from f = leb from f && is_root t f
+
+lesser : (p g : ℕ) → cond (ltb p g) p g ≡ min g p
+lesser p g = both (ltb p g) (λ e. rw e (let l = ltb-true p g e in omega arith)) (λ e. rw e (let l = ltb-false p g e in omega arith))
+
 abbrev parent_fits : ℕ × Edge → Bool
 parent_fits x = ltb x.1.parent (2 ^ 32)
 
@@ -44,27 +51,44 @@ lowest_fits s ok from =
     lowest_of t from t None (λ f q. absurd (none_some q))
     ((all_get parent_fits t ((rising_is t).0 (tree_rises s ok))).1 (λ f e q. lt-ltb e.parent (2 ^ 32) (parent_fits_lem s ok f e q)))
 
--- ---- the roots from a number on, of which k are written
+-- ---- the lowest root among those that the edges tell
 
-module _ (t : Tree) (k from : ℕ) (out : List ℕ) (to : ℕ) where
+fold_lowest : (t : Tree) (from : ℕ) (xs : Tree) (g : ℕ) → lowest_root t from (Some g) xs ≡ Some (fold min g (filter (is_root_from t from) (map (λ y. y.parent) (map told_edge xs))))
+fold_lowest t from [] g = refl
+fold_lowest t from (x ∷ xs) g =
+    let p = x.1.parent in
+    both (is_root_from t from p)
+    (λ e. rw e (fold_lowest t from xs (cond (ltb p g) p g) ∙ ap (λ (h : ℕ). Some (fold min h (filter (is_root_from t from) (map (λ y. y.parent) (map told_edge xs))))) (lesser p g)))
+    (λ e. rw e (fold_lowest t from xs g))
+
+-- by the library's words
+pub lowest_is : (t : Tree) (from : ℕ) (xs : Tree) → lowest_root t from None xs ≡ reduce min (filter (is_root_from t from) (map (λ y. y.parent) (map told_edge xs)))
+lowest_is t from [] = refl
+lowest_is t from (x ∷ xs) =
+    both (is_root_from t from x.1.parent)
+    (λ e. rw e (fold_lowest t from xs x.1.parent))
+    (λ e. rw e (lowest_is t from xs))
+
+-- ---- the roots from a number on, of which k are told
+
+module _ (t : Tree) (k from : ℕ) where
   -- no more may come
-  pub roots_full : 256 ≤ k → (to, out) ≡ written_all out to (roots_texts (256 - k) t from)
+  pub roots_full : 256 ≤ k → roots_texts (256 - k) t from ≡ []
   unfolding roots_texts
   roots_full l =
       let e : 256 - k ≡ 0 = omega arith in
-      rw e (nothing out to)
+      rw e refl
 
   module _ (l : k < 256) where
-    left : 256 - k ≡ suc (256 - (k + 1))
-    left = omega arith
+    one_more : 256 - k ≡ suc (256 - (k + 1))
+    one_more = omega arith
 
     -- there is none
-    pub roots_none : lowest_root t from None t ≡ None → (to, out) ≡ written_all out to (roots_texts (256 - k) t from)
+    pub roots_none : lowest_root t from None t ≡ None → roots_texts (256 - k) t from ≡ []
     unfolding roots_texts
-    roots_none q = rw (left, q) (nothing out to)
+    roots_none q = rw (one_more, q) refl
 
-    -- one is written, and those behind it are left
-    pub roots_more : (f to₁ : ℕ) (out₁ : List ℕ) → lowest_root t from None t ≡ Some f → (to₁, out₁) ≡ written_all out to (root_texts t f)
-        → written_all out₁ to₁ (roots_texts (256 - (k + 1)) t (f + 1)) ≡ written_all out to (roots_texts (256 - k) t from)
+    -- there is one, and those behind it
+    pub roots_more : (f : ℕ) → lowest_root t from None t ≡ Some f → roots_texts (256 - k) t from ≡ root_texts t f ++ roots_texts (256 - (k + 1)) t (f + 1)
     unfolding roots_texts
-    roots_more f to₁ out₁ q w = rw (left, q) (behind _ out out₁ to to₁ _ _ w refl)
+    roots_more f q = rw (one_more, q) refl

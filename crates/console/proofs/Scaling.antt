@@ -1,31 +1,31 @@
--- Steps of a number that is divided or multiplied by ten.
-use Rattle.std.proofs.Common.{◌≡◌, ℕ, zero, suc, ◌+◌, ◌<◌, true, false, refl, arith}
+-- A number that is taken on step by step: it is near enough, or one step more is taken.
+use Rattle.std.proofs.Common.{◌≡◌, ℕ, zero, suc, ◌+◌, ◌<◌, Bool, true, false, cond, refl, ap, arith}
 use lib.Ieee.{Float, lt, le}
 use Rattle.time.specs.Float.{◌⊗◌, ◌⊘◌}
 use Rattle.console.specs.Figures.{least, most, ten, divided, multiplied}
+use Rattle.console.specs.Steps.{stepped}
 
-pub no_steps : (steps : ℕ) (x : Float) (p : ℕ) → steps ≡ 0 → divided steps x p ≡ (x, p)
-unfolding divided
-no_steps steps x p h = rw h refl
+module _ (near : Float → Bool) (step : Float → Float) (x : Float) (p : ℕ) where
+  pub no_steps : (steps : ℕ) → steps ≡ 0 → stepped near step steps x p ≡ (x, p)
+  unfolding stepped
+  no_steps steps h = rw h refl
 
-pub no_steps_up : (steps : ℕ) (x : Float) (p : ℕ) → steps ≡ 0 → multiplied steps x p ≡ (x, p)
-unfolding multiplied
-no_steps_up steps x p h = rw h refl
+  pub near_enough : (steps : ℕ) → 0 < steps → near x ≡ true → stepped near step steps x p ≡ (x, p)
+  unfolding stepped
+  near_enough zero h e = absurd (omega arith)
+  near_enough (suc steps) h e = rw e refl
 
-pub small_enough : (steps : ℕ) (x : Float) (p : ℕ) → 0 < steps → lt x most ≡ true → divided steps x p ≡ (x, p)
-unfolding divided
-small_enough zero x p h e = absurd (omega arith)
-small_enough (suc steps) x p h e = rw e refl
+  pub one_step : (steps rest : ℕ) → steps ≡ suc rest → near x ≡ false → stepped near step steps x p ≡ stepped near step rest (step x) (p + 1)
+  unfolding stepped
+  one_step steps rest h e = rw (h, e) refl
 
-pub too_large : (steps rest : ℕ) (x : Float) (p : ℕ) → steps ≡ suc rest → lt x most ≡ false → divided steps x p ≡ divided rest (x ⊘ ten) (p + 1)
-unfolding divided
-too_large steps rest x p h e = rw (h, e) refl
+-- the steps down and up are those that are defined
+pub divided_steps : (steps : ℕ) (x : Float) (p : ℕ) → stepped (λ y. lt y most) (λ y. y ⊘ ten) steps x p ≡ divided steps x p
+unfolding stepped divided
+divided_steps zero x p = refl
+divided_steps (suc steps) x p = ap (cond (lt x most) (x, p)) (divided_steps steps (x ⊘ ten) (p + 1))
 
-pub large_enough : (steps : ℕ) (x : Float) (p : ℕ) → 0 < steps → le least x ≡ true → multiplied steps x p ≡ (x, p)
-unfolding multiplied
-large_enough zero x p h e = absurd (omega arith)
-large_enough (suc steps) x p h e = rw e refl
-
-pub too_small : (steps rest : ℕ) (x : Float) (p : ℕ) → steps ≡ suc rest → le least x ≡ false → multiplied steps x p ≡ multiplied rest (x ⊗ ten) (p + 1)
-unfolding multiplied
-too_small steps rest x p h e = rw (h, e) refl
+pub multiplied_steps : (steps : ℕ) (x : Float) (p : ℕ) → stepped (λ y. le least y) (λ y. y ⊗ ten) steps x p ≡ multiplied steps x p
+unfolding stepped multiplied
+multiplied_steps zero x p = refl
+multiplied_steps (suc steps) x p = ap (cond (le least x) (x, p)) (multiplied_steps steps (x ⊗ ten) (p + 1))

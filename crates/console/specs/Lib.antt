@@ -4,6 +4,7 @@ pub mod Show
 pub mod Edges
 pub mod Dot
 pub mod Tree
-pub mod Walk
+pub mod Reading
 pub mod Why
-pub mod Lines
+pub mod Steps
+pub mod Output

@@ -5,7 +5,7 @@ use Rattle.buffer.specs.declared.coverage.Coverage.{Coverage}
 use Rattle.buffer.specs.declared.coverage.Coverage.TheVariants.{AllTime, Range, Empty}
 use Rattle.buffer.specs.Samples.{coverage}
 use Rattle.text.specs.Ascii.{ascii}
-use Rattle.registry.specs.Tree.{Edge, Tree}
+use Rattle.registry.specs.Tree.{Tree}
 use Rattle.registry.specs.Answers.{Value}
 use Rattle.registry.specs.Answers as value
 use Rattle.registry.specs.Path.{Hop, chain, until, climb_end, hops, lookup, common_time}

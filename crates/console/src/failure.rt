@@ -5,6 +5,10 @@ use std::io::Write;
 // More bytes than any error's words have.
 const MOST: usize = 256;
 
+// That a read or a write failed, and that standard error was told of it.
+#[derive(Clone, Copy, Debug, PartialEq, Eq)]
+pub struct Failed;
+
 // The error in the system's words, without its number, which stands behind them.
 fn words(error: io::Error, buf: &mut [u8]) -> &str {
     let mut room: &mut [u8] = &mut *buf;
@@ -22,8 +26,9 @@ fn words(error: io::Error, buf: &mut [u8]) -> &str {
 }
 
 // Says what it was that failed, and why.
-pub fn say(rt: &impl Eprint, what: &str, error: io::Error) {
+pub fn say(rt: &impl Eprint, what: &str, error: io::Error) -> Failed {
     let mut buf = [0u8; MOST];
     let why = words(error, &mut buf);
     let _ = eprintln!(rt; "{what}: {why}");
+    Failed
 }

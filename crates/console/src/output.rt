@@ -1,18 +1,19 @@
-// Standard output: answers are gathered in a buffer. The next place in it is answered. Where writing fails, standard
-// error is told, and from then on the place is beyond the buffer, so that nothing more is written.
-ghost use Rattle.std.specs.Prelude.{◌≡◌, ◌+◌, ◌<◌, ◌≤◌, [], ◌∷◌, length, nat_lt, IfOk};
-ghost use Rattle.text.specs.Writing.{written};
+// Standard output: answers are gathered in a buffer and written out. Where writing fails, standard error is told, and
+// the failure is handed on, so that nothing more is written.
+ghost use Rattle.std.specs.Prelude.{◌≡◌, ◌+◌, ◌≤◌, ◌↔◌, [], ◌∷◌, length, IfOk, OnOk, OnErr, IsOk};
+ghost use Rattle.text.specs.Writing.{Writes};
+ghost use Rattle.console.specs.Output.{SameBuffer};
 
+use crate::failure::Failed;
 use crate::{failure, retry};
 use std::io;
 use std::rt::Clock;
+use text::Writer;
 
 // What writing takes of the runtime: standard output, standard error for what fails, and the clock, to wait by.
 pub trait Output: Print + Eprint + Clock {}
 
 impl<R: Print + Eprint + Clock> Output for R {}
-
-const NOWHERE: usize = usize::MAX;
 
 // More bytes than most answers have. The longer ones are written out as they grow, or find the buffer empty.
 const SPARE: usize = 1024;
@@ -42,45 +43,53 @@ fn put_all(rt: &impl Output, bytes: &[u8]) -> io::Result<()> {
     Err(retry::too_many())
 }
 
-// Writes out what is gathered: the next place is the buffer's first, or beyond it.
-pub fn flush(rt: &impl Output, out: &[u8], filled: usize) -> usize
-    ensures { 0 < result → length out.now < result }
+// What is gathered.
+fn gathered<'a>(out: &'a Writer<'_>) -> &'a [u8] {
+    &out.out[..out.at.min(out.out.len())]
+}
+
+// What is left when the gathered text has been written: an empty buffer, or a failure, of which standard error is told.
+fn emptied(rt: &impl Output, out: &mut Writer<'_>, written: io::Result<()>) -> Result<(), Failed>
+    ensures same { IsOk result ↔ IsOk written }
+    ensures empty { OnOk result (out.new.at ≡ 0) }
+    ensures err { OnErr result (out.new.at ≡ out.old.at) }
+    ensures same_buffer { SameBuffer out.old out.new }
 {
-    if out.len() < filled {
-        return filled;
-    }
-    match put_all(rt, &out[0..filled]) {
-        Ok(()) => 0,
-        Err(error) => {
-            failure::say(rt, "standard output", error);
-            NOWHERE
+    match written {
+        Ok(()) => {
+            out.at = 0;
+            Ok(())
         }
+        Err(error) => Err(failure::say(rt, "standard output", error)),
     }
 }
 
-// The next place with room for a line, or one beyond the buffer: what is gathered is written out where little room is
-// left.
-pub fn spare(rt: &impl Output, out: &[u8], filled: usize) -> usize
-    ensures { 1024 ≤ length out.now → result ≤ length out.now → result + 1024 ≤ length out.now }
+// Writes out what is gathered, and leaves the buffer empty.
+pub fn flush(rt: &impl Output, out: &mut Writer<'_>) -> Result<(), Failed>
+    ensures empty { OnOk result (out.new.at ≡ 0) }
+    ensures err { OnErr result (out.new.at ≡ out.old.at) }
+    ensures same_buffer { SameBuffer out.old out.new }
 {
-    if out.len() < SPARE {
-        return filled;
-    }
-    if filled <= out.len() - SPARE {
-        return filled;
-    }
-    flush(rt, out, filled)
+    let written = put_all(rt, gathered(out));
+    emptied(rt, out, written)
 }
 
-// Whether writing has failed.
-pub fn failed(out: &[u8], filled: usize) -> bool
-    ensures { result ≡ nat_lt (length out.now) filled }
+// Makes room for a line: what is gathered is written out where little room is left.
+pub fn spare(rt: &impl Output, out: &mut Writer<'_>) -> Result<(), Failed>
+    ensures room { 1024 ≤ length out.old.out.now → OnOk result (out.new.at + 1024 ≤ length out.new.out.now) }
+    ensures free { out.old.at + 1024 ≤ length out.old.out.now → IsOk result × (out.new.at ≡ out.old.at) }
+    ensures err { OnErr result (out.new.at ≡ out.old.at) }
+    ensures same_buffer { SameBuffer out.old out.new }
 {
-    out.len() < filled
+    let free = out.out.len().saturating_sub(out.at);
+    if free >= SPARE {
+        return Ok(());
+    }
+    flush(rt, out)
 }
 
-pub fn line_end(out: &mut [u8], at: usize) -> usize
-    ensures { (result, out.new) ≡ written out.old at (10 ∷ []) }
+pub fn line_end(out: &mut Writer<'_>)
+    ensures { Writes out.old out.new ((10 ∷ []) ∷ []) }
 {
-    text::write_bytes(out, at, b"\n")
+    out.write_bytes(b"\n");
 }

@@ -1,22 +1,21 @@
 // `why`: the path of a lookup, hop by hop. What is written is stated in specs/Why.antt.
-ghost use Rattle.std.specs.Prelude.{◌≡◌, [], ◌∷◌, ◌++◌, if◌then◌else◌, nat_eq};
+ghost use Rattle.std.specs.Prelude.{◌≡◌, ◌==◌, [], ◌∷◌, ◌++◌, if◌then◌else◌, nat_eq};
 ghost use Rattle.text.specs.Ascii.{ascii};
-ghost use Rattle.text.specs.Writing.{written, written_all};
-ghost use Rattle.registry.specs.Store.{tree_of};
-ghost use Rattle.registry.specs.Sound.{SoundStore};
-ghost use Rattle.registry.specs.Answers.{replied};
+ghost use Rattle.text.specs.Writing.{Writes};
+ghost use Rattle.registry.specs.Answers.{replied, refusal_of, pose, told_time};
 ghost use Rattle.registry.specs.Path.{chain, until, hops, lookup};
-ghost use Rattle.registry.specs.Calls.{store_of};
-ghost use Rattle.console.specs.Figures.{frame_texts};
-ghost use Rattle.console.specs.Edges.{coverage_texts};
+ghost use Rattle.registry.specs.Calls.{words};
 ghost use Rattle.console.specs.Why.{served_at, told_line, hop_lines, climb_texts, meeting_texts, time_texts, common_texts, outcome_texts, lookup_texts, path_texts, tree_texts, why_texts};
+ghost use Rattle.console.specs.Reading.{tree_in};
 
 use crate::{edges, figures, output, refusals, show};
 use buffer::coverage::Coverage;
-use registry::answer::Reply;
-use registry::check::Checked;
-use registry::checked::NextEdge;
-use registry::{check, checked};
+use geometry::isometry::Isometry;
+use registry::checked::{Checked, Edge};
+use registry::error::RegistryError;
+use registry::store::Store;
+use text::Writer;
+use time::stamp::Stamp;
 
 // Whether an edge is served at an instant.
 fn is_served(coverage: Coverage, t: u64) -> bool
@@ -24,231 +23,171 @@ fn is_served(coverage: Coverage, t: u64) -> bool
 {
     match coverage {
         Coverage::AllTime => true,
-        Coverage::Range { start, end } => (start <= t) & (t <= end),
+        Coverage::Range { start, end } => (start..=end).contains(&t),
         Coverage::Empty => false,
     }
 }
 
-fn put_served(out: &mut [u8], at: usize, served: bool) -> usize
-    ensures { (result, out.new) ≡ written out.old at (if served then ascii ": served\n" else ascii ": not served\n") }
+fn put_served(out: &mut Writer<'_>, served: bool)
+    ensures { Writes out.old out.new ((if served then ascii ": served\n" else ascii ": not served\n") ∷ []) }
 {
     if served {
-        return text::write_bytes(out, at, b": served\n");
+        out.write_bytes(b": served\n");
+    } else {
+        out.write_bytes(b": not served\n");
     }
-    text::write_bytes(out, at, b": not served\n")
-}
-
-// The two frames of a hop.
-fn put_ends(out: &mut [u8], at: usize, child: u64, parent: u64) -> usize
-    ensures { (result, out.new) ≡ written_all out.old at (ascii "  " ∷ (frame_texts child ++ (ascii " under " ∷ (frame_texts parent ++ (ascii ", " ∷ []))))) }
-{
-    let first = text::write_bytes(out, at, b"  ");
-    let second = figures::put_frame(out, first, child);
-    let third = text::write_bytes(out, second, b" under ");
-    let fourth = figures::put_frame(out, third, parent);
-    text::write_bytes(out, fourth, b", ")
 }
 
 // A hop on a line of its own: its frames, its kind and range, and whether it is served at the instant.
-fn put_hop(
-    out: &mut [u8],
-    at: usize,
-    child: u64,
-    parent: u64,
-    count: usize,
-    coverage: Coverage,
-    t: u64,
-) -> usize
-    ensures { (result, out.new) ≡ written_all out.old at (told_line t child parent count coverage) }
+fn put_hop(out: &mut Writer<'_>, hop: Edge, t: u64)
+    ensures { Writes out.old out.new (told_line t hop.child hop.parent hop.count hop.coverage) }
 {
-    let second = put_ends(out, at, child, parent);
-    let third = edges::put_edge(out, second, count, coverage, b", ");
-    put_served(out, third, is_served(coverage, t))
+    out.write_bytes(b"  ");
+    figures::put_frame(out, hop.child);
+    out.write_bytes(b" under ");
+    figures::put_frame(out, hop.parent);
+    out.write_bytes(b", ");
+    edges::put_edge(out, hop, b", ");
+    put_served(out, is_served(hop.coverage, t));
 }
 
 // The hops from a frame up to where its climb ends.
-fn put_hops(
-    head: &[u64],
-    instants: &[u64],
-    poses: &[f64],
-    frame: u64,
-    end: u64,
-    t: u64,
-    out: &mut [u8],
-    at: usize,
-) -> usize
-    requires { SoundStore (store_of head.now instants.now poses.now) }
-    ensures { (result, out.new) ≡ written_all out.old at (let u = tree_of (store_of head.now instants.now poses.now) in hop_lines t (hops u (until (nat_eq end) (chain u frame)))) }
+fn put_hops(store: &Checked<'_>, frame: u64, end: u64, t: u64, out: &mut Writer<'_>)
+    ensures { Writes out.old out.new (let u = tree_in store.now in hop_lines t (hops u (until (nat_eq end) (chain u frame)))) }
 {
-    let mut to = at;
     let mut from = frame;
     while from != end {
-        let NextEdge::Edge {
-            child,
-            parent,
-            count,
-            coverage,
-        } = edges::edge_of(head, instants, poses, from)
-        else {
-            return to;
+        let Some(hop) = edges::edge_of(store, from) else {
+            return;
         };
-        to = put_hop(out, to, child, parent, count, coverage, t);
-        from = parent;
+        put_hop(out, hop, t);
+        from = hop.parent;
     }
-    to
 }
 
 // Which climb follows, from which frame to which.
-fn put_climb(out: &mut [u8], at: usize, name: &[u8], frame: u64, end: u64) -> usize
-    ensures { (result, out.new) ≡ written_all out.old at (climb_texts name.now frame end) }
+fn put_climb(out: &mut Writer<'_>, name: &[u8], frame: u64, end: u64)
+    ensures { Writes out.old out.new (climb_texts name.now frame end) }
 {
-    let second = text::write_bytes(out, at, b"from the ");
-    let third = text::write_bytes(out, second, name);
-    let fourth = text::write_bytes(out, third, b", ");
-    let fifth = figures::put_frame(out, fourth, frame);
+    out.write_bytes(b"from the ");
+    out.write_bytes(name);
+    out.write_bytes(b", ");
+    figures::put_frame(out, frame);
     if frame == end {
-        return text::write_bytes(out, fifth, b": no hop\n");
+        out.write_bytes(b": no hop\n");
+    } else {
+        out.write_bytes(b", up to ");
+        figures::put_frame(out, end);
+        out.write_bytes(b":\n");
     }
-    let sixth = text::write_bytes(out, fifth, b", up to ");
-    let seventh = figures::put_frame(out, sixth, end);
-    text::write_bytes(out, seventh, b":\n")
 }
 
 // One climb with its hops.
-fn put_side(
-    head: &[u64],
-    instants: &[u64],
-    poses: &[f64],
-    name: &[u8],
-    frame: u64,
-    end: u64,
-    t: u64,
-    out: &mut [u8],
-    at: usize,
-) -> usize
-    requires { SoundStore (store_of head.now instants.now poses.now) }
-    ensures { (result, out.new) ≡ written_all out.old at (let u = tree_of (store_of head.now instants.now poses.now) in climb_texts name.now frame end ++ hop_lines t (hops u (until (nat_eq end) (chain u frame)))) }
+fn put_side(store: &Checked<'_>, name: &[u8], frame: u64, end: u64, t: u64, out: &mut Writer<'_>)
+    ensures { Writes out.old out.new (let u = tree_in store.now in climb_texts name.now frame end ++ hop_lines t (hops u (until (nat_eq end) (chain u frame)))) }
 {
-    let next = put_climb(out, at, name, frame, end);
-    put_hops(head, instants, poses, frame, end, t, out, next)
+    put_climb(out, name, frame, end);
+    put_hops(store, frame, end, t, out);
 }
 
 // Where the two climbs meet, if they end at one frame.
-fn put_meeting(out: &mut [u8], at: usize, target_end: u64, source_end: u64) -> usize
-    ensures { (result, out.new) ≡ written_all out.old at (meeting_texts target_end source_end) }
+fn put_meeting(out: &mut Writer<'_>, target_end: u64, source_end: u64)
+    ensures { Writes out.old out.new (meeting_texts target_end source_end) }
 {
-    if target_end != source_end {
-        return text::write_bytes(out, at, b"the climbs do not meet\n");
+    if target_end == source_end {
+        out.write_bytes(b"the climbs meet at ");
+        figures::put_frame(out, target_end);
+        output::line_end(out);
+    } else {
+        out.write_bytes(b"the climbs do not meet\n");
     }
-    let next = text::write_bytes(out, at, b"the climbs meet at ");
-    let end = figures::put_frame(out, next, target_end);
-    output::line_end(out, end)
 }
 
 // The latest common time, or who is to blame.
-fn put_time(out: &mut [u8], at: usize, common: Reply) -> usize
-    ensures { (result, out.new) ≡ written_all out.old at (time_texts (replied common)) }
+fn put_time(out: &mut Writer<'_>, common: Result<Stamp, RegistryError>)
+    ensures { Writes out.old out.new (time_texts (replied told_time common)) }
 {
     match common {
-        Reply::Static => return text::write_bytes(out, at, b"any, no hop moves"),
-        Reply::At(t) => return figures::put_seconds(out, at, t),
-        _ => return refusals::put_refusal(out, at, common),
+        Ok(Stamp::Static) => out.write_bytes(b"any, no hop moves"),
+        Ok(Stamp::At(t)) => figures::put_seconds(out, t),
+        Err(error) => refusals::put_refusal(out, error),
     }
 }
 
-fn put_common(out: &mut [u8], at: usize, common: Reply) -> usize
-    ensures { (result, out.new) ≡ written_all out.old at (common_texts (replied common)) }
+fn put_common(out: &mut Writer<'_>, common: Result<Stamp, RegistryError>)
+    ensures { Writes out.old out.new (common_texts (replied told_time common)) }
 {
-    let next = text::write_bytes(out, at, b"latest common time: ");
-    let end = put_time(out, next, common);
-    output::line_end(out, end)
+    out.write_bytes(b"latest common time: ");
+    put_time(out, common);
+    output::line_end(out);
 }
 
 // That the lookup is answered, or why not.
-fn put_outcome(out: &mut [u8], at: usize, seen: Reply) -> usize
-    ensures { (result, out.new) ≡ written_all out.old at (outcome_texts (replied seen)) }
+fn put_outcome(out: &mut Writer<'_>, seen: Result<Isometry, RegistryError>)
+    ensures { Writes out.old out.new (outcome_texts (replied pose seen)) }
 {
-    let Reply::Refusal(_, _) = seen else {
-        return text::write_bytes(out, at, b"answered");
-    };
-    refusals::put_refusal(out, at, seen)
+    match seen {
+        Ok(_) => out.write_bytes(b"answered"),
+        Err(error) => refusals::put_refusal(out, error),
+    }
 }
 
-fn put_lookup(out: &mut [u8], at: usize, seen: Reply) -> usize
-    ensures { (result, out.new) ≡ written_all out.old at (lookup_texts (replied seen)) }
+fn put_lookup(out: &mut Writer<'_>, seen: Result<Isometry, RegistryError>)
+    ensures { Writes out.old out.new (lookup_texts (replied pose seen)) }
 {
-    let next = text::write_bytes(out, at, b"lookup: ");
-    let end = put_outcome(out, next, seen);
-    output::line_end(out, end)
+    out.write_bytes(b"lookup: ");
+    put_outcome(out, seen);
+    output::line_end(out);
 }
 
 // The path of two frames, the time that they have in common, and what the lookup replies.
 fn put_path(
-    head: &[u64],
-    instants: &[u64],
-    poses: &[f64],
+    store: &Checked<'_>,
     target: u32,
     source: u32,
     t: u64,
-    seen: Reply,
-    out: &mut [u8],
-    at: usize,
-) -> usize
-    requires { SoundStore (store_of head.now instants.now poses.now) × (replied seen ≡ lookup (tree_of (store_of head.now instants.now poses.now)) target source t) }
-    ensures { (result, out.new) ≡ written_all out.old at (path_texts (tree_of (store_of head.now instants.now poses.now)) target source t) }
+    seen: Result<Isometry, RegistryError>,
+    out: &mut Writer<'_>,
+)
+    requires { replied pose seen ≡ lookup (tree_in store.now) target source t }
+    ensures { Writes out.old out.new (path_texts (tree_in store.now) target source t) }
 {
     let a = target as u64;
     let b = source as u64;
-    let ends = checked::climb_ends(head, instants, poses, a, b);
-    let x = ends.target;
-    let y = ends.source;
-    let second = put_side(head, instants, poses, b"target", a, x, t, out, at);
-    let third = put_side(head, instants, poses, b"source", b, y, t, out, second);
-    let fourth = put_meeting(out, third, x, y);
-    let common = checked::latest_common_time(head, instants, poses, target, source);
-    let fifth = put_common(out, fourth, Reply::of_tree(common));
-    put_lookup(out, fifth, seen)
+    let ends = store.climb_ends(a, b);
+    put_side(store, b"target", a, ends.target, t, out);
+    put_side(store, b"source", b, ends.source, t, out);
+    put_meeting(out, ends.target, ends.source);
+    put_common(out, store.latest_common_time(target, source));
+    put_lookup(out, seen);
+}
+
+// Whether a frame that was asked for is unknown.
+fn is_unknown(error: RegistryError) -> bool
+    ensures { result ≡ ((refusal_of error).0 == 9) }
+{
+    matches!(error, RegistryError::UnknownFrame(_))
 }
 
 // Of a sound store: the path and the lookup, or the lookup's refusal alone where a frame is unknown.
-fn put_sound(
-    head: &[u64],
-    instants: &[u64],
-    poses: &[f64],
-    target: u32,
-    source: u32,
-    t: u64,
-    out: &mut [u8],
-    at: usize,
-) -> usize
-    requires { SoundStore (store_of head.now instants.now poses.now) }
-    ensures { (result, out.new) ≡ written_all out.old at (tree_texts (tree_of (store_of head.now instants.now poses.now)) target source t) }
+fn put_sound(store: &Checked<'_>, target: u32, source: u32, t: u64, out: &mut Writer<'_>)
+    ensures { Writes out.old out.new (tree_texts (tree_in store.now) target source t) }
 {
-    let answer = checked::get_transform(head, instants, poses, target, source, t);
-    let seen = Reply::of_tree(answer);
-    if refusals::number(seen) == 9 {
-        return put_lookup(out, at, seen);
+    let seen = store.get_transform(target, source, t);
+    if seen.is_err_and(is_unknown) {
+        put_lookup(out, seen);
+    } else {
+        put_path(store, target, source, t, seen, out);
     }
-    put_path(head, instants, poses, target, source, t, seen, out, at)
 }
 
 // Each hop between the target and the source, whether it is served at the instant, and what follows from that.
-pub fn why(
-    head: &[u64],
-    instants: &[u64],
-    poses: &[f64],
-    target: u32,
-    source: u32,
-    t: u64,
-    out: &mut [u8],
-    at: usize,
-) -> usize
-    ensures { (result, out.new) ≡ written_all out.old at (why_texts target source t (store_of head.now instants.now poses.now)) }
+pub fn why(store: &Store<'_>, target: u32, source: u32, t: u64, out: &mut Writer<'_>)
+    ensures { Writes out.old out.new (why_texts target source t (words store.now)) }
 {
-    let next = show::put_question(out, at, target, source, t);
-    let checked = check::check(head, instants, poses);
-    let Checked::Sound = checked else {
-        return put_lookup(out, next, Reply::of_tree(edges::refused(checked)));
-    };
-    put_sound(head, instants, poses, target, source, t, out, next)
+    show::put_question(out, target, source, t);
+    match store.check() {
+        Ok(checked) => put_sound(&checked, target, source, t, out),
+        Err(error) => put_lookup(out, Err(error)),
+    }
 }

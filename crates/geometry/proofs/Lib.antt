@@ -1,8 +1,7 @@
-pub mod Tolerance
+pub mod Absolute
 pub mod ReplyInjective
 pub mod Squares
 pub mod UnitDistance
 pub mod ValidFast
 pub mod Order
-pub mod NoPose
 pub mod Finites

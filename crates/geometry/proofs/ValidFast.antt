@@ -14,7 +14,7 @@ use lib.Ieee.Order.{le_of_values}
 use lib.Ieee.Scale.{finite}
 use lib.Ieee.Positive.{num, den, above_of_le, positive, le_trans_positive}
 use Rattle.time.specs.Float.{◌⊖◌, one64, abs}
-use Rattle.time.specs.Reply.{answer, norm, nothing, refuse}
+use Rattle.time.specs.Reply.{Carried, answer, norm, nothing, refuse}
 use Rattle.time.proofs.Seconds.{Plain, plain, le→cross}
 use Rattle.libm.specs.Sqrt.{sqrt, sqrt_at}
 use Rattle.libm.specs.Laws.{Units}
@@ -245,3 +245,13 @@ valid_fast a = passed f (is_finite r) (lt tolerance (abs (sqrt n ⊖ one64))) (s
     go : (b : Bool) → (T b → Upward n) → (T (finite n) → b ≡ true) → f && b && not (lt tolerance (abs (sqrt n ⊖ one64))) ≡ f && (le lowest n && le n highest)
     go true p q = rw (and-true f, upward_test n (add-fits binary64 _ _) (p tt))
     go false p q = rw (and-false f, fails (le lowest n && le n highest) (λ t. subst T (sym (q (range_finite n t))) tt), and-false f)
+
+-- what passes two tests is the answer
+both_passed : (s t : Bool) (j k : ℕ) (c d : Carried) (a : Isometry) → passes (refuse s j c (refuse t k d (answer a))) ≡ true → refuse s j c (refuse t k d (answer a)) ≡ answer a
+both_passed true t j k c d a h = absurd (subst T (sym h) tt)
+both_passed false true j k c d a h = absurd (subst T (sym h) tt)
+both_passed false false j k c d a h = refl
+
+pub valid_answer : (a : Isometry) → is_valid a ≡ true → validate a ≡ answer a
+unfolding validate
+valid_answer a h = both_passed _ _ 3 4 nothing _ a h

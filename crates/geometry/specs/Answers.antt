@@ -1,21 +1,18 @@
--- Document 01's number and values for each case of this crate's enums.
-use Rattle.time.specs.Reply.{Reply, answer, refusal, nothing, norm}
-use Rattle.geometry.specs.declared.isometry.Isometry.{Isometry}
-use Rattle.geometry.specs.declared.quaternion.Quaternion.{Quaternion}
-use Rattle.geometry.specs.declared.quaternion.Normalized.{Normalized}
-use Rattle.geometry.specs.declared.quaternion.Normalized.TheVariants as normalized
-use Rattle.geometry.specs.declared.transform.Answer.{Answer}
-use Rattle.geometry.specs.declared.transform.Answer.TheVariants as transform
+-- Document 01's number and values for each case of this crate's errors.
+use Rattle.std.specs.Prelude.{ℕ}
+use Rattle.time.specs.Reply.{Carried, nothing, norm}
+use Rattle.time.specs.Answers.{refusal_of as time_refusal_of}
+use Rattle.geometry.specs.declared.error.QuaternionError.{QuaternionError}
+use Rattle.geometry.specs.declared.error.QuaternionError.TheVariants as quaternion
+use Rattle.geometry.specs.declared.error.TransformError.{TransformError}
+use Rattle.geometry.specs.declared.error.TransformError.TheVariants as transform
 
-abbrev pub normalized_reply : Normalized → Reply Quaternion
-normalized_reply (normalized.Rotation q) = answer q
-normalized_reply normalized.NonFinite = refusal 13 nothing
-normalized_reply normalized.ZeroLengthNormalization = refusal 14 nothing
+abbrev pub quaternion_refusal_of : QuaternionError → ℕ × Carried
+quaternion_refusal_of quaternion.NonFinite = (13, nothing)
+quaternion_refusal_of quaternion.ZeroLengthNormalization = (14, nothing)
 
-abbrev pub reply_of : Answer → Reply Isometry
-reply_of (transform.Pose a) = answer a
-reply_of transform.NonFiniteValues = refusal 3 nothing
-reply_of (transform.NonUnitRotation n) = refusal 4 (norm n)
-reply_of transform.NonFinite = refusal 13 nothing
-reply_of transform.ZeroLengthNormalization = refusal 14 nothing
-reply_of transform.DurationUnderflow = refusal 15 nothing
+abbrev pub refusal_of : TransformError → ℕ × Carried
+refusal_of transform.NonFiniteValues = (3, nothing)
+refusal_of (transform.NonUnitRotation n) = (4, norm n)
+refusal_of (transform.QuaternionError e) = quaternion_refusal_of e
+refusal_of (transform.TimestampError e) = time_refusal_of e

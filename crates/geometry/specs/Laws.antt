@@ -1,15 +1,15 @@
 -- What holds of the answers. Proved in proofs/ under the same name.
-use Rattle.std.specs.Prelude.{ℕ, ◌≡◌, true}
-use Rattle.time.specs.Reply.{answer}
+use Rattle.std.specs.Prelude.{ℕ, ◌≡◌, true, Result}
+use Rattle.time.specs.Reply.{answer, reply_by}
 use Rattle.geometry.specs.declared.isometry.Isometry.{Isometry}
-use Rattle.geometry.specs.declared.transform.Answer.{Answer}
-use Rattle.geometry.specs.Answers.{reply_of}
+use Rattle.geometry.specs.declared.error.TransformError.{TransformError}
+use Rattle.geometry.specs.Answers.{refusal_of}
 use Rattle.geometry.specs.Isometry.{is_finite, product, mul, inverse, interpolate}
 use Rattle.geometry.specs.Transform.{validate}
 
--- a reply fixes the enum's case and its values
+-- a reply fixes the result: its pose, or the error's case and its values
 abbrev pub ReplyInjective : Type 0
-ReplyInjective = (a b : Answer) → reply_of a ≡ reply_of b → a ≡ b
+ReplyInjective = (a b : Result Isometry TransformError) → reply_by refusal_of a ≡ reply_by refusal_of b → a ≡ b
 
 -- "No overflowed pose leaves the module" (M-103): a pose that an operation answers is finite
 pub record AnswersFinite : Type 0 where

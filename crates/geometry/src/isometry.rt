@@ -1,15 +1,17 @@
 // Poses by value, from src/geometry/transform/isometry.rs.
 ghost use Rattle.std.specs.Prelude.{◌≡◌};
-ghost use Rattle.geometry.specs.Answers.{reply_of};
-ghost use Rattle.geometry.specs.Isometry.{identity, is_finite, product, mul, inverse, inverse_with_rotation, interpolated, interpolate, between};
+ghost use Rattle.time.specs.Reply.{reply_by};
+ghost use Rattle.geometry.specs.Answers.{refusal_of};
+ghost use Rattle.geometry.specs.Isometry.{identity, is_finite, finite, product, mul, inverse, inverse_with_rotation, interpolated, interpolate, between};
 
-use super::quaternion::{Normalized, Quaternion};
-use super::transform::Answer;
+use super::error::TransformError;
+use super::quaternion::Quaternion;
 use super::vector3::Vector3;
+use time::timestamp::share;
 
 // A rotation followed by a translation.
 #[repr(C)]
-#[derive(Clone, Copy)]
+#[derive(Clone, Copy, Debug, PartialEq)]
 pub struct Isometry {
     pub translation: Vector3,
     pub rotation: Quaternion,
@@ -31,90 +33,100 @@ impl Isometry {
     pub fn is_finite(self) -> bool
         ensures { result ≡ is_finite self }
     {
-        if self.translation.is_finite() {
-            return self.rotation.is_finite();
+        self.translation.is_finite() && self.rotation.is_finite()
+    }
+
+    // The pose itself, if all seven components are finite.
+    #[tactic(auto, unfolding(crate::specs::Isometry::finite))]
+    fn finite(self) -> Result<Isometry, TransformError>
+        ensures { reply_by refusal_of result ≡ finite self }
+    {
+        if self.is_finite() {
+            Ok(self)
+        } else {
+            Err(TransformError::NonFiniteValues)
         }
-        false
     }
 
     // The steps of the product, for a layer that tests what comes out of several: it need not be finite.
+    #[tactic(auto, unfolding(crate::specs::Isometry::product))]
     pub fn product(self, rhs: Isometry) -> Isometry
         ensures { result ≡ product self rhs }
     {
         Isometry {
-            translation: self
-                .rotation
-                .rotate_vector(rhs.translation)
-                .add(self.translation),
-            rotation: self.rotation.mul(rhs.rotation),
+            translation: self.rotation.rotate_vector(rhs.translation) + self.translation,
+            rotation: self.rotation * rhs.rotation,
         }
     }
 
-    pub fn mul(self, rhs: Isometry) -> Answer
-        ensures { reply_of result ≡ mul self rhs }
+    #[tactic(auto, unfolding(crate::specs::Isometry::mul))]
+    pub fn mul(self, rhs: Isometry) -> Result<Isometry, TransformError>
+        ensures { reply_by refusal_of result ≡ mul self rhs }
     {
-        let product = self.product(rhs);
-        if product.is_finite() {
-            return Answer::Pose(product);
-        }
-        Answer::NonFiniteValues
+        self.product(rhs).finite()
     }
 
-    pub fn inverse(self) -> Answer
-        ensures { reply_of result ≡ inverse self }
+    #[tactic(auto, unfolding(crate::specs::Isometry::inverse))]
+    pub fn inverse(self) -> Result<Isometry, TransformError>
+        ensures { reply_by refusal_of result ≡ inverse self }
     {
-        match self.rotation.normalize() {
-            Normalized::NonFinite => Answer::NonFinite,
-            Normalized::ZeroLengthNormalization => Answer::ZeroLengthNormalization,
-            Normalized::Rotation(q) => self.inverse_with_rotation(q.conjugate()),
-        }
+        let rotation = self.rotation.normalize()?;
+        self.inverse_with_rotation(rotation.conjugate())
     }
 
     // The inverse, whose rotation is given.
-    fn inverse_with_rotation(self, rotation: Quaternion) -> Answer
-        ensures { reply_of result ≡ inverse_with_rotation self rotation }
+    #[tactic(auto, unfolding(crate::specs::Isometry::inverse_with_rotation))]
+    fn inverse_with_rotation(self, rotation: Quaternion) -> Result<Isometry, TransformError>
+        ensures { reply_by refusal_of result ≡ inverse_with_rotation self rotation }
     {
-        let translation = rotation.rotate_vector(self.translation).scale(-1.0);
+        let translation = -1.0 * rotation.rotate_vector(self.translation);
         if translation.is_finite() {
-            return Answer::Pose(Isometry {
+            Ok(Isometry {
                 translation,
                 rotation,
-            });
+            })
+        } else {
+            Err(TransformError::NonFiniteValues)
         }
-        Answer::NonFiniteValues
     }
 
     // The steps of `interpolate`, for a layer that tests what comes out: it need not be finite.
-    pub fn interpolated(self, other: Isometry, from: u64, to: u64, query: u64) -> Answer
-        ensures { reply_of result ≡ interpolated self other from to query }
+    #[tactic(auto, unfolding(crate::specs::Isometry::interpolated))]
+    pub fn interpolated(
+        self,
+        other: Isometry,
+        from: u64,
+        to: u64,
+        query: u64,
+    ) -> Result<Isometry, TransformError>
+        ensures { reply_by refusal_of result ≡ interpolated self other from to query }
     {
-        match time::timestamp::share(from, to, query) {
-            time::timestamp::Ratio::DurationUnderflow => Answer::DurationUnderflow,
-            time::timestamp::Ratio::ZeroSpan => Answer::Pose(self),
-            time::timestamp::Ratio::Share(ratio) => Answer::Pose(self.between(other, ratio)),
+        match share(from, to, query)? {
+            None => Ok(self),
+            Some(ratio) => Ok(self.between(other, ratio)),
         }
     }
 
     // At `query` between self at `from` and other at `to`.
-    pub fn interpolate(self, other: Isometry, from: u64, to: u64, query: u64) -> Answer
-        ensures { reply_of result ≡ interpolate self other from to query }
+    #[tactic(auto, unfolding(crate::specs::Isometry::interpolate))]
+    pub fn interpolate(
+        self,
+        other: Isometry,
+        from: u64,
+        to: u64,
+        query: u64,
+    ) -> Result<Isometry, TransformError>
+        ensures { reply_by refusal_of result ≡ interpolate self other from to query }
     {
-        let Answer::Pose(pose) = self.interpolated(other, from, to, query) else {
-            return Answer::DurationUnderflow;
-        };
-        if pose.is_finite() {
-            return Answer::Pose(pose);
-        }
-        Answer::NonFiniteValues
+        self.interpolated(other, from, to, query)?.finite()
     }
 
+    #[tactic(auto, unfolding(crate::specs::Isometry::between))]
     fn between(self, other: Isometry, ratio: f64) -> Isometry
         ensures { result ≡ between self other ratio }
     {
-        let kept = self.translation.scale(1.0 - ratio);
-        let gained = other.translation.scale(ratio);
         Isometry {
-            translation: kept.add(gained),
+            translation: (1.0 - ratio) * self.translation + ratio * other.translation,
             rotation: self.rotation.slerp(other.rotation, ratio),
         }
     }

@@ -1,8 +1,10 @@
-// What a pose must be to be added, from src/geometry/transform/mod.rs, and the refusals of its error.rs.
+// What a pose must be to be added, from src/geometry/transform/mod.rs.
 ghost use Rattle.std.specs.Prelude.{◌≡◌};
-ghost use Rattle.geometry.specs.Answers.{reply_of};
+ghost use Rattle.time.specs.Reply.{reply_by};
+ghost use Rattle.geometry.specs.Answers.{refusal_of};
 ghost use Rattle.geometry.specs.Transform.{is_valid, validate};
 
+use super::error::TransformError;
 use super::isometry::Isometry;
 
 pub const UNIT_NORM_TOLERANCE: f64 = 1e-6;
@@ -12,39 +14,23 @@ const LOWEST_SQUARED: f64 = 0.9999980000010001;
 
 const HIGHEST_SQUARED: f64 = 1.000002000001;
 
-// A pose, or why there is none.
-#[derive(Drop)]
-pub enum Answer {
-    Pose(Isometry),
-    NonFiniteValues,
-    NonUnitRotation(f64),
-    NonFinite,
-    ZeroLengthNormalization,
-    DurationUnderflow,
-}
-
 // The pose itself where it may be added, by its norm.
-fn by_norm(pose: Isometry) -> Answer
-    ensures { reply_of result ≡ validate pose }
+#[tactic(auto, using(crate::proofs::Absolute::unsigned_is_abs), unfolding(crate::specs::Transform::validate))]
+fn by_norm(pose: Isometry) -> Result<Isometry, TransformError>
+    ensures { reply_by refusal_of result ≡ validate pose }
 {
-    if !pose.translation.is_finite() {
-        return Answer::NonFiniteValues;
-    }
-    if !pose.rotation.is_finite() {
-        return Answer::NonFiniteValues;
+    if !pose.is_finite() {
+        return Err(TransformError::NonFiniteValues);
     }
     let norm = pose.rotation.norm();
-    let excess = norm - 1.0;
-    if excess > UNIT_NORM_TOLERANCE {
-        return Answer::NonUnitRotation(norm);
+    if (norm - 1.0).abs() > UNIT_NORM_TOLERANCE {
+        return Err(TransformError::NonUnitRotation(norm));
     }
-    if excess < -UNIT_NORM_TOLERANCE {
-        return Answer::NonUnitRotation(norm);
-    }
-    Answer::Pose(pose)
+    Ok(pose)
 }
 
 // Whether `validate` gives the pose. The root is monotone, so the sum of squares is tested; x - x is 0 for a finite x, and NaN for any other.
+#[tactic(auto, using(crate::proofs::Squares::differences, crate::proofs::ValidFast::valid_fast))]
 pub fn is_valid(pose: Isometry) -> bool
     ensures { result ≡ is_valid pose }
 {
@@ -55,11 +41,12 @@ pub fn is_valid(pose: Isometry) -> bool
 }
 
 // The pose itself where it may be added. A valid one needs no root.
-pub fn validate(pose: Isometry) -> Answer
-    ensures { reply_of result ≡ validate pose }
+#[tactic(auto, using(crate::proofs::ValidFast::valid_answer))]
+pub fn validate(pose: Isometry) -> Result<Isometry, TransformError>
+    ensures { reply_by refusal_of result ≡ validate pose }
 {
     if is_valid(pose) {
-        return Answer::Pose(pose);
+        return Ok(pose);
     }
     by_norm(pose)
 }

@@ -2,10 +2,10 @@
 ghost use Rattle.std.specs.Prelude.{◌≡◌};
 ghost use Rattle.geometry.specs.Vector3.{zero_vector, add, scale, is_finite};
 
-use libm::float::is_finite;
+use std::ops::{Add, Mul};
 
 #[repr(C)]
-#[derive(Clone, Copy)]
+#[derive(Clone, Copy, Debug, PartialEq)]
 pub struct Vector3 {
     pub x: f64,
     pub y: f64,
@@ -25,35 +25,38 @@ impl Vector3 {
         Self::ZERO
     }
 
-    pub fn add(self, other: Vector3) -> Vector3
-        ensures { result ≡ add self other }
+    #[tactic(auto, using(libm::proofs::Finite::is_finite_finite))]
+    pub fn is_finite(self) -> bool
+        ensures { result ≡ is_finite self }
     {
+        self.x.is_finite() && self.y.is_finite() && self.z.is_finite()
+    }
+}
+
+impl Add for Vector3 {
+    type Output = Vector3;
+
+    ghost add_gives = { λ a b sum. sum ≡ add a b };
+
+    fn add(self, other: Vector3) -> Vector3 {
         Vector3 {
             x: self.x + other.x,
             y: self.y + other.y,
             z: self.z + other.z,
         }
     }
+}
 
-    // The factor is the left operand, as in the Rust's `f64 * Vector3`.
-    pub fn scale(self, factor: f64) -> Vector3
-        ensures { result ≡ scale factor self }
-    {
+impl Mul<Vector3> for f64 {
+    type Output = Vector3;
+
+    ghost mul_gives = { λ factor a scaled. scaled ≡ scale factor a };
+
+    fn mul(self, rhs: Vector3) -> Vector3 {
         Vector3 {
-            x: factor * self.x,
-            y: factor * self.y,
-            z: factor * self.z,
+            x: self * rhs.x,
+            y: self * rhs.y,
+            z: self * rhs.z,
         }
-    }
-
-    pub fn is_finite(self) -> bool
-        ensures { result ≡ is_finite self }
-    {
-        if is_finite(self.x) {
-            if is_finite(self.y) {
-                return is_finite(self.z);
-            }
-        }
-        false
     }
 }

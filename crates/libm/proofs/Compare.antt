@@ -16,22 +16,13 @@ compare_lt a b h = go (compare a b) (says a b)
   where
     go : (o : Ordering) → Says a b o → o ≡ Ordering.lt
     go Ordering.lt s = refl
-    go Ordering.eq s = absurd (no (s.2 tt))
-      where
-        no : a ≡ b → ⊥
-        no e = omega arith
-    go Ordering.gt s = absurd (no (s.1 tt))
-      where
-        no : b < a → ⊥
-        no g = omega arith
+    go Ordering.eq s = absurd (omega (arith, s.2 tt))
+    go Ordering.gt s = absurd (omega (arith, s.1 tt))
 
 pub compare_gt : (a b : ℕ) → b < a → compare a b ≡ Ordering.gt
 compare_gt a b h = go (compare a b) (says a b)
   where
-    no : a ≤ b → ⊥
-    no g = omega arith
-
     go : (o : Ordering) → Says a b o → o ≡ Ordering.gt
-    go Ordering.lt s = absurd (no (s.0 tt))
-    go Ordering.eq s = absurd (no (s.0 tt))
+    go Ordering.lt s = absurd (omega (arith, s.0 tt))
+    go Ordering.eq s = absurd (omega (arith, s.0 tt))
     go Ordering.gt s = refl

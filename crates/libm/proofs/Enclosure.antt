@@ -32,10 +32,7 @@ grown a d b e h =
     let p : (d + a) * e ≡ d * e + a * e = add-mul d a e in
     let q : (e + b) * d ≡ e * d + b * d = add-mul e b d in
     let r : d * e ≡ e * d = mul_comm d e in
-    simp (mul-one, one-mul) (go ((d + a) * e) ((e + b) * d) (d * e) (e * d) (a * e) (b * d) p q r h)
-  where
-    go : (x y u v a b : ℕ) → x ≡ u + a → y ≡ v + b → u ≡ v → a ≤ b → x ≤ y
-    go x y u v a b p q r h = omega arith
+    simp (mul-one, one-mul) (omega (arith, p, q, r, h))
 
 den_of : (x : Float) → 0 < 1 * den x
 den_of x = subst (λ (n : ℕ). 0 < n) (sym (one-mul (den x))) (den_pos x)
@@ -55,10 +52,7 @@ add_least : (x : Float) → T (positive x) → T (le one64 (one64 ⊕ x))
 add_least x p =
     subst (λ (z : Float). T (le one64 z)) (sym (add_is x p))
     (subst (λ (z : Float). T (le z (round binary64 false (1 * den x + num x * 1) (1 * den x)))) one_is
-    (round_mono binary64 1 1 (1 * den x + num x * 1) (1 * den x) (zero-lt-suc 0) (den_of x) (go (den x) (num x))))
-  where
-    go : (d a : ℕ) → 1 * (1 * d) ≤ (1 * d + a * 1) * 1
-    go d a = omega arith
+    (round_mono binary64 1 1 (1 * den x + num x * 1) (1 * den x) (zero-lt-suc 0) (den_of x) (omega arith)))
 
 -- ---- constants
 
@@ -221,7 +215,7 @@ one_step least most low high k a b v w p q e z s =
     let vh = inside one64 two64 low high h one_positive two_positive v w r in (
       step k (z ⊗ z) h,
       add-fits binary64 one64 (z ⊗ z ⊗ quotient k ⊗ h),
-      acos_step k z h (whole (numerator k)) (whole (denominator k)) p refl refl ∙ i,
+      acos_step k z h p ∙ i,
       (step_mono k p q least (z ⊗ z) low h a sq v vh s.0 r.0, step_mono k p q (z ⊗ z) most h high sq b vh w s.1 r.1),
     )
 
@@ -254,7 +248,7 @@ reached (suc n) z a h =
     let e : 48 - n - 1 ≡ 48 - suc n = omega arith in (
       step k (z ⊗ z) g,
       add-fits binary64 one64 (z ⊗ z ⊗ quotient k ⊗ g),
-      ap (λ (j : ℕ). acos_steps j z (step k (z ⊗ z) g)) (sym e) ∙ acos_step k z g (whole (numerator k)) (whole (denominator k)) (omega arith) refl refl ∙ i,
+      ap (λ (j : ℕ). acos_steps j z (step k (z ⊗ z) g)) (sym e) ∙ acos_step k z g (omega arith) ∙ i,
       step_value k (omega arith) (omega arith) (z ⊗ z) g a r,
     )
 

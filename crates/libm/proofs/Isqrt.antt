@@ -15,10 +15,9 @@ pub next_square : (q : ℕ) → (q + 1) * (q + 1) ≡ q * q + q + q + 1
 next_square q = simp (mul-add, add-mul, mul_comm, mul-one, one-mul, add_assoc)
 
 pub double_square : (r : ℕ) → 2 * r * (2 * r) ≡ r * r + r * r + r * r + r * r
-double_square r = ap (λ (x : ℕ). x * x) double ∙ simp (mul-add, add-mul, add_assoc)
-  where
-    double : 2 * r ≡ r + r
-    double = omega arith
+double_square r =
+    let double : 2 * r ≡ r + r = omega arith in
+    ap (λ (x : ℕ). x * x) double ∙ simp (mul-add, add-mul, add_assoc)
 
 -- one more binary digit
 digit_floor : (n r : ℕ) → Floor (n / 4) r → Floor n (cond (leb ((2 * r + 1) * (2 * r + 1)) n) (2 * r + 1) (2 * r))
@@ -35,13 +34,7 @@ isqrt_floor (suc d) n h =
     digit_floor n (isqrt d (n / 4)) (isqrt_floor d (n / 4) ((div-lt_iff_lt-mul (zero-lt-suc 3)).1 (subst (λ (x : ℕ). n < x) (pow-suc 4 d) h)))
 
 floor_le : (n a b : ℕ) → Floor n a → Floor n b → a ≤ b
-floor_le n a b p q = le_of_suc-le-suc (lt_of_not-le (λ (g : suc b ≤ a). absurd (no (mul-le-mul (up g) (up g)) p.0 q.1)))
-  where
-    up : suc b ≤ a → b + 1 ≤ a
-    up g = omega arith
-
-    no : (b + 1) * (b + 1) ≤ a * a → a * a ≤ n → n < (b + 1) * (b + 1) → ⊥
-    no x y z = omega arith
+floor_le n a b p q = le_of_suc-le-suc (lt_of_not-le (λ (g : suc b ≤ a). let h : b + 1 ≤ a = omega arith in omega (arith, mul-le-mul h h)))
 
 pub floor_unique : (n a b : ℕ) → Floor n a → Floor n b → a ≡ b
 floor_unique n a b p q = le_antisymm (floor_le n a b p q) (floor_le n b a q p)

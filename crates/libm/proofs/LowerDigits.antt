@@ -1,8 +1,8 @@
 -- The lower half of a root's digits by one division. u is the upper half, t what is left below the radicand; q the quotient of t * 2^26 by u
 -- and m its remainder.
 use mathlib.Core.Path.{◌≡◌, sym, ap, ap₂, ◌∙◌}
-use Prim.Native.Nat.{ℕ, zero, suc, ◌+◌, ◌-◌, ◌*◌, ◌/◌, ◌%◌, ◌^◌, ◌≤◌, ◌<◌}
-use native.Mathlib.Nat.{mul-add, add-mul, mul_comm, add_assoc, mul-mul-mul_comm, mul_right_comm, mul-le-mul_right, div-le_of_le-mul, div-add-mod, mod-lt, not-suc-le-zero}
+use Prim.Native.Nat.{ℕ, ◌+◌, ◌-◌, ◌*◌, ◌/◌, ◌%◌, ◌^◌, ◌≤◌, ◌<◌}
+use native.Mathlib.Nat.{mul-add, add-mul, mul_comm, add_assoc, mul-mul-mul_comm, mul_right_comm, mul-le-mul_right, div-le_of_le-mul, div-add-mod, mod-lt}
 use native.Mathlib.Omega.{arith}
 
 pub record Quotient (u t q m : ℕ) : Type 0 where
@@ -16,10 +16,6 @@ quotient u t p h =
     let q : ℕ = t * 2 ^ 26 / u in
     let f : q ≤ 2 ^ 27 = div-le_of_le-mul u (omega arith) in
     record { whole = div-add-mod (t * 2 ^ 26) u; less = mod-lt (t * 2 ^ 26) p; fits = f; square = mul-le-mul_right q f }
-
-pub not_zero : (n u : ℕ) → n < u * u → 1 ≤ u
-not_zero n zero h = absurd (not-suc-le-zero h)
-not_zero n (suc u) h = omega arith
 
 squared : (x q : ℕ) → (x + q) * (x + q) ≡ x * x + (x * q + x * q) + q * q
 squared x q = simp (mul-add, add-mul, mul_comm, add_assoc)
@@ -44,38 +40,17 @@ below x p =
     go : (a b y : ℕ) → a + (y * 1 + y * 1) + 1 * 1 ≡ b → y + 1 ≡ x → a + (x * 2 - 1) ≡ b
     go a b y g e = omega arith
 
--- the root and what is left: g is the radicand, s the root's square, d the difference to the square below it
-kept_at : (s l m g : ℕ) → s + m ≡ g + l → l ≤ m → s + (m - l) ≡ g
-kept_at s l m g e h = omega arith
-
+-- one less than the root, and what is left: g is the radicand, s the root's square, d the difference to the square below it
 lowered_at : (s l m g d r : ℕ) → s + m ≡ g + l → r + d ≡ s → l ≤ m + d → r + (m + d - l) ≡ g
 lowered_at s l m g d r e f h = omega arith
 
 module _ (u t q m : ℕ) (k : Quotient u t q m) where
-  pub kept : q * q ≤ m * 2 ^ 28 → (u * 2 ^ 27 + q) * (u * 2 ^ 27 + q) + (m * 2 ^ 28 - q * q) ≡ (u * u + t) * 2 ^ 54
-  kept h = kept_at ((u * 2 ^ 27 + q) * (u * 2 ^ 27 + q)) (q * q) (m * 2 ^ 28) ((u * u + t) * 2 ^ 54) (total u t q m k) h
-
   -- one less makes enough room
   pub room : 2 ^ 26 ≤ u → q * q ≤ m * 2 ^ 28 + ((u * 2 ^ 27 + q) * 2 - 1)
-  room h = at (q * q) k.square k.fits
-    where
-      at : (l : ℕ) → l ≤ 2 ^ 27 * q → q ≤ 2 ^ 27 → l ≤ m * 2 ^ 28 + ((u * 2 ^ 27 + q) * 2 - 1)
-      at l a b = omega arith
+  room h = omega (arith, k.square, k.fits)
 
   pub lowered : 2 ^ 26 ≤ u
       → (u * 2 ^ 27 + q - 1) * (u * 2 ^ 27 + q - 1) + (m * 2 ^ 28 + ((u * 2 ^ 27 + q) * 2 - 1) - q * q) ≡ (u * u + t) * 2 ^ 54
   lowered h =
       lowered_at ((u * 2 ^ 27 + q) * (u * 2 ^ 27 + q)) (q * q) (m * 2 ^ 28) ((u * u + t) * 2 ^ 54) ((u * 2 ^ 27 + q) * 2 - 1)
       ((u * 2 ^ 27 + q - 1) * (u * 2 ^ 27 + q - 1)) (total u t q m k) (below (u * 2 ^ 27 + q) (omega arith)) (room h)
-
-  pub kept_least : m * 2 ^ 28 - q * q ≤ 2 * (u * 2 ^ 27 + q)
-  kept_least = at (q * q) k.less
-    where
-      at : (l : ℕ) → m < u → m * 2 ^ 28 - l ≤ 2 * (u * 2 ^ 27 + q)
-      at l h = omega arith
-
-  pub lowered_least : 2 ^ 26 ≤ u → m * 2 ^ 28 < q * q → m * 2 ^ 28 + ((u * 2 ^ 27 + q) * 2 - 1) - q * q ≤ 2 * (u * 2 ^ 27 + q - 1)
-  lowered_least g h = at (q * q) h
-    where
-      at : (l : ℕ) → m * 2 ^ 28 < l → m * 2 ^ 28 + ((u * 2 ^ 27 + q) * 2 - 1) - l ≤ 2 * (u * 2 ^ 27 + q - 1)
-      at l h = omega arith

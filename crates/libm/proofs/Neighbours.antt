@@ -25,36 +25,24 @@ gap v q k h lo = by_shift (dec_le k h.shift)
     by_shift (yes g) =
         let d = h.shift - k in
         let e : v ≡ h.digits * 2 ^ d * 2 ^ k =
-        h.is ∙ ap (λ (x : ℕ). h.digits * 2 ^ x) (back h.shift g) ∙ ap (λ (x : ℕ). h.digits * x) (pow-add 2 d k) ∙ sym (mul_assoc h.digits (2 ^ d) (2 ^ k)) in
+        h.is ∙ ap (λ (x : ℕ). h.digits * 2 ^ x) (omega arith) ∙ ap (λ (x : ℕ). h.digits * x) (pow-add 2 d k) ∙ sym (mul_assoc h.digits (2 ^ d) (2 ^ k)) in
         pick (h.digits * 2 ^ d) e (dec_le (h.digits * 2 ^ d) q)
       where
-        back : (s : ℕ) → k ≤ s → s ≡ s - k + k
-        back s g = omega arith
-
-        next : (w : ℕ) → q < w → q + 1 ≤ w
-        next w g = omega arith
-
         pick : (w : ℕ) → v ≡ w * 2 ^ k → Dec (w ≤ q) → (v ≤ q * 2 ^ k) ⊎ ((q + 1) * 2 ^ k ≤ v)
         pick w e (yes l) = inl (subst (λ (x : ℕ). x ≤ q * 2 ^ k) (sym e) (mul-le-mul_right (2 ^ k) l))
-        pick w e (no f) = inr (subst (λ (x : ℕ). (q + 1) * 2 ^ k ≤ x) (sym e) (mul-le-mul_right (2 ^ k) (next w (lt_of_not-le f))))
+        pick w e (no f) = inr (subst (λ (x : ℕ). (q + 1) * 2 ^ k ≤ x) (sym e) (mul-le-mul_right (2 ^ k) (omega (arith, lt_of_not-le f))))
     by_shift (no f) =
         let j = h.shift in
-        let l : 53 + j ≤ 52 + k = step j (lt_of_not-le f) in
+        let l : 53 + j ≤ 52 + k = omega (arith, lt_of_not-le f) in
         let a : v ≤ 2 ^ (53 + j) = le_trans (le_of_eq h.is) (le_trans (mul-le-mul_right (2 ^ j) (le_of_lt h.few)) (le_of_eq (sym (pow-add 2 53 j)))) in
         inl (le_trans a (le_trans (pow_mono l) (le_trans (le_of_eq (pow-add 2 52 k)) (mul-le-mul_right (2 ^ k) lo))))
-      where
-        step : (j : ℕ) → j < k → 53 + j ≤ 52 + k
-        step j g = omega arith
 
 -- no held v is nearer to the root of n than r: the root is not on v's side of the middle of v and r
 abbrev pub Nearest : ℕ → ℕ → Type 0
 Nearest n r = (v : ℕ) → Held v → (v < r → (v + r) * (v + r) ≤ 4 * n) × (r < v → 4 * n ≤ (v + r) * (v + r))
 
 four_square : (a : ℕ) → (a + a) * (a + a) ≡ 4 * (a * a)
-four_square a = mul-add (a + a) a a ∙ ap₂ ◌+◌ (add-mul a a a) (add-mul a a a) ∙ sums (a * a)
-  where
-    sums : (s : ℕ) → s + s + (s + s) ≡ 4 * s
-    sums s = omega arith
+four_square a = mul-add (a + a) a a ∙ ap₂ ◌+◌ (add-mul a a a) (add-mul a a a) ∙ omega arith
 
 -- the root of n lies from a up to b, and no held number between them
 module _ (n a b : ℕ) (low : a * a ≤ n) (high : n < b * b) (none : (v : ℕ) → Held v → (v ≤ a) ⊎ (b ≤ v)) where

@@ -19,10 +19,7 @@ half_pos s p e = omega arith
 
 trailing_more : (d s : ℕ) → 0 < s → s < 2 ^ d → count_trailing_zeros (suc d) s ≡ count_trailing_zeros d s
 unfolding count_trailing_zeros
-trailing_more zero s p h = absurd (no p h)
-  where
-    no : 0 < s → s < 1 → ⊥
-    no p h = omega arith
+trailing_more zero s p h = absurd (omega (arith, p, h))
 trailing_more (suc d) s p h =
     go (s % 2) refl (λ e. trailing_more d (s / 2) (half_pos s p e) ((div-lt_iff_lt-mul (zero-lt-suc 1)).1 (subst (λ (x : ℕ). s < x) (pow-suc 2 d) h)))
   where

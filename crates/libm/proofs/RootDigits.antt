@@ -3,7 +3,6 @@ use mathlib.Core.Path.{◌≡◌, ap, ◌∙◌}
 use Prim.Native.Nat.{ℕ, zero, suc, ◌+◌, ◌-◌, ◌*◌, ◌/◌, ◌^◌, ◌≤◌, ◌<◌}
 use native.Mathlib.Nat.{mul-add, add-mul, mul_comm, mul_assoc, add_assoc, pow-suc, mul-div_cancel, zero-lt-suc}
 use native.Mathlib.Omega.{arith}
-use lib.Pow.{pow_pos}
 
 abbrev pub Power : ℕ → Type 0
 Power b = (k : ℕ) × (b ≡ 2 ^ k)
@@ -14,10 +13,7 @@ Turn n q r b = Power b × (q * q + r * b ≡ n * 2 ^ 54) × (r < 2 * q + b) × (
 
 -- a power of two above 1 is twice its half, which is a power of two
 halved : (b : ℕ) → Power b → 1 < b → (b / 2 * 2 ≡ b) × Power (b / 2)
-halved b (zero, e) h = absurd (no e h)
-  where
-    no : b ≡ 1 → 1 < b → ⊥
-    no e h = omega arith
+halved b (zero, e) h = absurd (omega (arith, e))
 halved b (suc k, e) h =
     let p : b ≡ 2 ^ k * 2 = e ∙ pow-suc 2 k in
     (omega arith, (k, ap (λ (x : ℕ). x / 2) p ∙ mul-div_cancel (2 ^ k) (zero-lt-suc 1)))
@@ -40,8 +36,3 @@ pub digit_zero : (n q r b : ℕ) → Turn n q r b → 1 < b → r * 2 < q * 2 + 
 digit_zero n q r b t h g =
     let w = halved b t.0 h in
     (w.1, ap (λ (x : ℕ). q * q + x) (same_rest r b w.0) ∙ t.1, omega arith, omega arith)
-
-pub last_bit : (b : ℕ) → Power b → b ≤ 1 → b ≡ 1
-last_bit b (k, e) h =
-    let p : 0 < 2 ^ k = pow_pos k in
-    omega arith

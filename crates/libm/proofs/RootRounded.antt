@@ -2,7 +2,7 @@
 use mathlib.Core.Path.{◌≡◌, sym, ap, ap₂, ◌∙◌, subst}
 use mathlib.Core.Logic.{◌⊎◌, inl, inr}
 use mathlib.Core.Bool.{false}
-use Prim.Native.Nat.{ℕ, suc, ◌+◌, ◌-◌, ◌*◌, ◌/◌, ◌%◌, ◌^◌, ◌≤◌, ◌<◌, compare, Ordering}
+use Prim.Native.Nat.{ℕ, suc, ◌+◌, ◌*◌, ◌/◌, ◌%◌, ◌^◌, ◌≤◌, ◌<◌, compare, Ordering}
 use native.Mathlib.Nat.{mul_assoc, mul-le-mul, mul-le-mul_right, mul-lt-mul_of_pos_right, lt_of_not-le, le_of_suc-le-suc, mul-div_cancel, eq-zero-or-pos}
 use native.Mathlib.Omega.{arith}
 use lib.Pow.{pow-add, pow_pos}
@@ -23,10 +23,7 @@ beyond_is r h lo hi =
     size_gt n (52 + j) (subst (λ (x : ℕ). x ≤ n) (sym (pow-add 2 52 j)) (subst (λ (x : ℕ). 2 ^ 52 * 2 ^ j ≤ x) (sym e) (mul-le-mul_right (2 ^ j) lo))) in
     let b : size n ≤ 54 + j =
     size-le n (54 + j) (subst (λ (x : ℕ). n < x) (sym (pow-add 2 54 j)) (subst (λ (x : ℕ). x < 2 ^ 54 * 2 ^ j) (sym e) (mul-lt-mul_of_pos_right hi (pow_pos j)))) in
-    plain (size n) h a b
-  where
-    plain : (z h : ℕ) → 52 + (h + 511 + (h + 511)) < z → z ≤ 54 + (h + 511 + (h + 511)) → (z + 1) / 2 - 53 ≡ h + 485
-    plain z h a b = omega arith
+    omega (arith, a, b)
 
 -- the root of 4 * m is Q, so that of m is Q / 2, on which side of the half way point Q % 2 says
 module _ (m q Q rest : ℕ) (sq : Q * Q + rest ≡ 4 * m) (le : rest ≤ 2 * Q) where
@@ -89,22 +86,15 @@ rounded c r h Q rest e lo hi sq le =
     (omega arith) (omega arith) le
     (eq-zero-or-pos (Q % 2))
   where
-    places : (h : ℕ) → h + 511 ≡ 26 + (h + 485)
-    places h = omega arith
+    places : h + 511 ≡ 26 + (h + 485)
+    places = omega arith
 
     radicand : r * 4 ^ (h + 511) ≡ r * 4 ^ 26 * 4 ^ (h + 485)
-    radicand = ap (λ (x : ℕ). r * 4 ^ x) (places h) ∙ ap (λ (x : ℕ). r * x) (pow-add 4 26 (h + 485)) ∙ sym (mul_assoc r (4 ^ 26) (4 ^ (h + 485)))
+    radicand = ap (λ (x : ℕ). r * 4 ^ x) places ∙ ap (λ (x : ℕ). r * x) (pow-add 4 26 (h + 485)) ∙ sym (mul_assoc r (4 ^ 26) (4 ^ (h + 485)))
 
 -- such a root has 54 digits
 pub digits_range : (Q rest r : ℕ) → Q * Q + rest ≡ r * 2 ^ 54 → rest ≤ 2 * Q → 2 ^ 52 ≤ r → r < 2 ^ 54 → (2 ^ 53 ≤ Q) × (Q < 2 ^ 54)
-digits_range Q rest r sq le lo hi =
-    (le_of_suc-le-suc (lt_of_not-le (λ (g : suc Q ≤ 2 ^ 53). few (mul-le-mul (up g) (up g)))), lt_of_not-le (λ (g : 2 ^ 54 ≤ Q). many (mul-le-mul g g)))
-  where
-    up : suc Q ≤ 2 ^ 53 → Q + 1 ≤ 2 ^ 53
-    up g = omega arith
-
-    few : (Q + 1) * (Q + 1) ≤ 2 ^ 53 * 2 ^ 53 → ⊥
-    few h = omega (arith, next_square Q)
-
-    many : 2 ^ 54 * 2 ^ 54 ≤ Q * Q → ⊥
-    many h = omega arith
+digits_range Q rest r sq le lo hi = (
+  le_of_suc-le-suc (lt_of_not-le (λ (g : suc Q ≤ 2 ^ 53). let h : Q + 1 ≤ 2 ^ 53 = omega arith in omega (arith, mul-le-mul h h, next_square Q))),
+  lt_of_not-le (λ (g : 2 ^ 54 ≤ Q). omega (arith, mul-le-mul g g)),
+)

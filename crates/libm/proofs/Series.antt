@@ -1,53 +1,57 @@
 -- One step of each series, and its end.
-use mathlib.Core.Path.{◌≡◌, refl, ap, ap₂, ◌∙◌}
-use Prim.Native.Nat.{ℕ, zero, suc, ◌+◌, ◌-◌, ◌<◌, ◌≤◌}
-use native.Mathlib.Nat.{lt_irrefl, not-suc-le-zero, zero-add}
+use mathlib.Core.Path.{◌≡◌, refl, sym, ap, ◌∙◌}
+use mathlib.Core.List.{List, [], ◌∷◌}
+use Prim.Native.Nat.{ℕ, zero, suc, ◌+◌, ◌-◌, ◌≤◌, ◌<◌}
+use native.Mathlib.Nat.{lt_irrefl, zero-add, suc-add, add-suc}
 use native.Mathlib.Omega.{arith}
+use lib.ListN.{take, drop}
+use Rattle.std.proofs.Common.{Bor, map}
+use Rattle.std.proofs.lemmas.List.{reverse-append}
+use Rattle.std.proofs.lemmas.List.Folds.{fold-map}
 use lib.Ieee.{Float}
+use Rattle.std.specs.Prelude.{fold, reverse}
 use Rattle.time.specs.Float.{◌⊕◌, ◌⊖◌, ◌⊗◌, ◌⊘◌, whole, one64}
-use Rattle.libm.specs.Libm.{numerator, denominator, acos_steps, sin_steps}
+use Rattle.libm.specs.Libm.{acos_steps, sin_steps}
 use Rattle.libm.specs.Enclosure.{step, run}
+use Rattle.libm.proofs.Table.{row, rows, rows_last, part}
 
-pred : (k : ℕ) → suc k - 1 ≡ k
-pred k = omega arith
+-- one step of each series by a row of the table
+abbrev pub turn : Float → Float → ℕ × ℕ → Float
+turn s h r = one64 ⊕ s ⊗ (whole r.0 ⊘ whole r.1) ⊗ h
 
-pub acos_step : (k : ℕ) (z h n d : Float) → 0 < k → n ≡ whole (numerator k) → d ≡ whole (denominator k)
-    → acos_steps (k - 1) z (one64 ⊕ z ⊗ z ⊗ (n ⊘ d) ⊗ h) ≡ acos_steps k z h
+abbrev pub sin_turn : Float → Float → ℕ × ℕ → Float
+sin_turn a s r = one64 ⊖ a ⊗ a ⊘ whole r.1 ⊗ s
+
+pub acos_step : (k : ℕ) (z h : Float) → 0 < k → acos_steps (k - 1) z (step k (z ⊗ z) h) ≡ acos_steps k z h
 unfolding acos_steps
-acos_step zero z h n d p a b = absurd (lt_irrefl 0 p)
-acos_step (suc k) z h n d p a b = ap₂ (λ (j : ℕ) (c : Float). acos_steps j z (one64 ⊕ z ⊗ z ⊗ c ⊗ h)) (pred k) (ap₂ ◌⊘◌ a b)
+acos_step zero z h p = absurd (lt_irrefl 0 p)
+acos_step (suc k) z h p = let pred : suc k - 1 ≡ k = omega arith in ap (λ (i : ℕ). acos_steps i z (step (suc k) (z ⊗ z) h)) pred
 
-pub sin_step : (k : ℕ) (a s d : Float) → 0 < k → d ≡ whole (denominator k)
-    → sin_steps (k - 1) a (one64 ⊖ a ⊗ a ⊘ d ⊗ s) ≡ sin_steps k a s
-unfolding sin_steps
-sin_step zero a s d p e = absurd (lt_irrefl 0 p)
-sin_step (suc k) a s d p e = ap₂ (λ (j : ℕ) (c : Float). sin_steps j a (one64 ⊖ a ⊗ a ⊘ c ⊗ s)) (pred k) e
+-- what a loop over rows that were lent gives
+over_rows : (f : Float → ℕ × ℕ → Float) (h : Float) (xs : List (Bor (ℕ × ℕ))) (rs : List (ℕ × ℕ)) → map (λ (x : Bor (ℕ × ℕ)). x.now) xs ≡ rs → fold (λ h x. f h x.now) h xs ≡ fold f h rs
+over_rows f h xs rs e = sym (fold-map f (λ (x : Bor (ℕ × ℕ)). x.now) h xs) ∙ ap (fold f h) e
 
-pub sin_end : (k : ℕ) (a s : Float) → k ≤ 0 → s ≡ sin_steps k a s
-unfolding sin_steps
-sin_end zero a s p = refl
-sin_end (suc k) a s p = absurd (not-suc-le-zero p)
-
--- ---- runs of the arc cosine's steps
-
-pub run_step : (n j k : ℕ) (s h a b : Float) → n ≡ k - j → j < k → a ≡ whole (numerator k) → b ≡ whole (denominator k)
-    → run (k - 1 - j) j s (one64 ⊕ s ⊗ (a ⊘ b) ⊗ h) ≡ run n j s h
-unfolding run
-run_step zero j k s h a b e l p q = absurd (no e l)
-  where
-    no : 0 ≡ k - j → j < k → ⊥
-    no e l = omega arith
-run_step (suc n) j k s h a b e l p q =
-    let d : k - 1 - j ≡ n = omega arith in
-    let i : k ≡ j + suc n = omega arith in
-    ap₂ (λ (m : ℕ) (c : Float). run m j s (one64 ⊕ s ⊗ c ⊗ h)) d (ap₂ ◌⊘◌ (p ∙ ap (λ (x : ℕ). whole (numerator x)) i) (q ∙ ap (λ (x : ℕ). whole (denominator x)) i))
-
-pub run_end : (n j : ℕ) (s h : Float) → n ≤ 0 → run n j s h ≡ h
-unfolding run
-run_end zero j s h p = refl
-run_end (suc n) j s h p = absurd (not-suc-le-zero p)
+-- from the last of n rows after j to the first
+run_rows : (n j : ℕ) (s h : Float) → fold (turn s) h (reverse (rows (suc j) n)) ≡ run n j s h
+unfolding run rows
+run_rows zero j s h = refl
+run_rows (suc n) j s h =
+    let k : suc j + n ≡ j + suc n = suc-add j n ∙ sym (add-suc j n) in
+    ap (λ (rs : List (ℕ × ℕ)). fold (turn s) h (reverse rs)) (rows_last (suc j) n)
+    ∙ ap (fold (turn s) h) (reverse-append (rows (suc j) n) (row (suc j + n) ∷ []))
+    ∙ run_rows n j s (step (suc j + n) s h)
+    ∙ ap (λ (i : ℕ). run n j s (step i s h)) k
 
 pub run_all : (n : ℕ) (z h : Float) → run n 0 (z ⊗ z) h ≡ acos_steps n z h
 unfolding run acos_steps
 run_all zero z h = refl
 run_all (suc n) z h = run_all n z (step (0 + suc n) (z ⊗ z) h) ∙ ap (λ (k : ℕ). acos_steps n z (step k (z ⊗ z) h)) (zero-add (suc n))
+
+-- the n rows after the first j, from the last to the first
+pub run_over : (n j : ℕ) (s h : Float) (xs : List (Bor (ℕ × ℕ))) → map (λ (x : Bor (ℕ × ℕ)). x.now) xs ≡ reverse (take n (drop j (rows 1 48))) → j + n ≤ 48
+    → fold (λ h x. turn s h x.now) h xs ≡ run n j s h
+run_over n j s h xs e p = over_rows (turn s) h xs _ (e ∙ ap reverse (part j n 48 p)) ∙ run_rows n j s h
+
+pub sin_over : (a : Float) (xs : List (Bor (ℕ × ℕ))) → map (λ (x : Bor (ℕ × ℕ)). x.now) xs ≡ reverse (rows 1 10) → fold (λ s x. sin_turn a s x.now) one64 xs ≡ sin_steps 10 a one64
+unfolding rows sin_steps
+sin_over a xs e = over_rows (sin_turn a) one64 xs _ e

@@ -11,18 +11,15 @@ use Rattle.libm.proofs.Powers.{four}
 -- an exponent that is even, or odd with one factor 2 moved into the significand
 
 pub even_exponent : (s e : ℕ) → e % 2 ≡ 0 → s * 4 ^ (e / 2) ≡ s * 2 ^ e
-even_exponent s e h = ap (λ (x : ℕ). s * x) (four (e / 2) ∙ ap (λ (x : ℕ). 2 ^ x) back)
-  where
-    back : e / 2 + e / 2 ≡ e
-    back = omega arith
+even_exponent s e h =
+    let back : e / 2 + e / 2 ≡ e = omega arith in
+    ap (λ (x : ℕ). s * x) (four (e / 2) ∙ ap (λ (x : ℕ). 2 ^ x) back)
 
 pub odd_exponent : (s e : ℕ) → (e % 2 ≡ 0 → ⊥) → s * 2 * 4 ^ (e / 2) ≡ s * 2 ^ e
 odd_exponent s e h =
+    let back : suc (e / 2 + e / 2) ≡ e = omega arith in
     mul_assoc s 2 (4 ^ (e / 2))
     ∙ ap (λ (x : ℕ). s * x) (ap (λ (x : ℕ). 2 * x) (four (e / 2)) ∙ mul_comm 2 (2 ^ (e / 2 + e / 2)) ∙ sym (pow-suc 2 (e / 2 + e / 2)) ∙ ap (λ (x : ℕ). 2 ^ x) back)
-  where
-    back : suc (e / 2 + e / 2) ≡ e
-    back = omega arith
 
 pub normal : (field digits : ℕ) → (field ≡ 0 → ⊥) → (digits + 2 ^ 52) * 2 ^ (field + 51) ≡ units_at field digits * 2 ^ 52
 unfolding units_at

@@ -2,21 +2,22 @@
 use mathlib.Core.Path.{◌≡◌, refl, sym, ap, ◌∙◌, subst}
 use mathlib.Core.Logic.{inl, inr}
 use mathlib.Core.Bool.{Bool, true, false, not, cond, ◌||◌, beq}
-use Prim.Native.Nat.{ℕ, zero, suc, ◌+◌, ◌*◌, ◌/◌, ◌%◌, ◌^◌, ◌≤◌, ◌<◌}
+use Prim.Native.Nat.{ℕ, zero, suc, ◌+◌, ◌*◌, ◌/◌, ◌%◌, ◌^◌, ◌<◌}
 use native.Mathlib.Nat.{lt_irrefl, eq-zero-or-pos, mul-pos, zero-lt-suc, zero-mul}
 use native.Mathlib.Omega.{arith}
 use lib.Dec.{T, eqb, lt→ltb, ltb→lt, eqb→eq, eqb-suc-zero}
 use lib.Arith.{le→nltb}
 use lib.IntN.{ℤ}
-use lib.Ieee.{Float, nan, inf, fin, binary64, up, down, of_bits, to_bits, fits, ne, eq, lt, div, is_nan, nan_bits, level}
+use lib.Ieee.{Float, nan, inf, fin, binary64, up, down, of_bits, to_bits, fits, eq, lt, is_nan, nan_bits, level}
 use lib.Ieee.Bits.{nan_bits_above}
-use lib.Ieee.Compare.{differs_from_itself}
 use lib.Ieee.Fits.{up_pos, and_l}
 use borrow.Author.Tests.{eq-eqb, le-ltb}
-use Rattle.time.specs.Float.{◌⊘◌, zero64}
+use Rattle.time.specs.Float.{zero64}
 use Rattle.libm.specs.Sqrt.{sqrt, sqrt_at, root_units, units_of}
-use Rattle.libm.proofs.Finite.{infinity}
 use Rattle.libm.proofs.Units.{counted}
+
+abbrev infinity : Float
+infinity = of_bits binary64 0x7ff0_0000_0000_0000
 
 yes : {b : Bool} → b ≡ true → T b
 yes e = subst T (sym e) tt
@@ -24,9 +25,11 @@ yes e = subst T (sym e) tt
 no : {b : Bool} → b ≡ false → T b → ⊥
 no e t = subst T e t
 
-pub at_nan : (x : Float) → ne x x ≡ true → x ≡ sqrt x
-unfolding sqrt_at
-at_nan x h = let e : x ≡ nan = differs_from_itself x (yes h) in e ∙ ap sqrt (sym e)
+pub at_nan : (x : Float) → is_nan x ≡ true → x ≡ sqrt x
+unfolding sqrt_at is_nan
+at_nan nan h = refl
+at_nan (inf s) h = absurd (yes h)
+at_nan (fin s m e) h = absurd (yes h)
 
 -- a product with 2 ^ e is zero only where the number is
 vanishes : (m : ℕ) (e : ℤ) → m * up e * 1 ≡ 0 → m ≡ 0
@@ -60,16 +63,13 @@ some m e h = elim (eq-zero-or-pos m) [
     nothing : (u d : ℕ) → 0 * u * 1 + 0 * d ≡ 0
     nothing u d = simp zero-mul
 
-pub below_zero : (x : Float) → lt x zero64 ≡ true → zero64 ⊘ zero64 ≡ sqrt x
-unfolding of_bits lt div sqrt_at
+pub below_zero : (x : Float) → lt x zero64 ≡ true → nan ≡ sqrt x
+unfolding of_bits lt sqrt_at
 below_zero nan h = absurd (yes h)
 below_zero (inf true) h = refl
 below_zero (inf false) h = absurd (yes h)
 below_zero (fin true m e) h = sym (at_fin true m e (some m e (ltb→lt 0 (m * up e * 1 + 0 * 1 * down e) (yes h))))
-below_zero (fin false m e) h = absurd (no (le-ltb (m * up e * 1) (0 * 1 * down e) (least (m * up e * 1) (down e))) (yes h))
-  where
-    least : (a d : ℕ) → 0 * d ≤ a
-    least a d = omega arith
+below_zero (fin false m e) h = absurd (no (le-ltb (m * up e * 1) (0 * 1 * down e) (omega arith)) (yes h))
 
 pub at_infinity : (x : Float) → eq x infinity ≡ true → x ≡ sqrt x
 unfolding of_bits eq sqrt_at
@@ -92,20 +92,16 @@ zero_level s a b p q = subst (λ (y : ℕ). T (level s y false b)) (sym p) (subs
 more : (m : ℕ) (e : ℤ) (b : ℕ) → 0 < m → 0 < m * up e * 1 + b
 more m e b p = let h : 0 < m * up e * 1 = mul-pos (mul-pos p (up_pos e)) (zero-lt-suc 0) in omega arith
 
-pub otherwise : (x : Float) → ne x x ≡ false → eq x zero64 ≡ false → lt x zero64 ≡ false → eq x infinity ≡ false → Positive x
-unfolding of_bits ne eq lt
+pub otherwise : (x : Float) → is_nan x ≡ false → eq x zero64 ≡ false → eq x infinity ≡ false → lt x zero64 ≡ false → Positive x
+unfolding of_bits is_nan eq lt
 otherwise nan a b c d = absurd (no a tt)
-otherwise (inf true) a b c d = absurd (no c tt)
-otherwise (inf false) a b c d = absurd (no d tt)
+otherwise (inf true) a b c d = absurd (no d tt)
+otherwise (inf false) a b c d = absurd (no c tt)
 otherwise (fin s zero e) a b c d = absurd (no b (zero_level s (0 * up e * 1) (0 * 1 * down e) (ap (λ (y : ℕ). y * 1) (zero-mul (up e))) (zero-mul (down e))))
-otherwise (fin true (suc m) e) a b c d = absurd (no c (lt→ltb 0 (suc m * up e * 1 + 0 * 1 * down e) (more (suc m) e (0 * 1 * down e) (zero-lt-suc m))))
+otherwise (fin true (suc m) e) a b c d = absurd (no d (lt→ltb 0 (suc m * up e * 1 + 0 * 1 * down e) (more (suc m) e (0 * 1 * down e) (zero-lt-suc m))))
 otherwise (fin false (suc m) e) a b c d = positive (zero-lt-suc m)
 
 -- the bits of such a value, and its root by them
-
-pub not_nan : (x : Float) → Positive x → T (not (is_nan x))
-unfolding is_nan
-not_nan x (positive p) = tt
 
 pub bits_within : (x : Float) → T (fits binary64 x) → Positive x → (0 < to_bits binary64 x) × (to_bits binary64 x < 2047 * 2 ^ 52)
 bits_within x f (positive {m} {e} p) = let k = counted m e f p in (k.0, k.1)

@@ -37,36 +37,21 @@ module _ (n : ℕ) (z : ℕ) (big : 1074 < z) (z-lt : n < 2 ^ z) (z-ge : (j : �
   part_lt : n / 4 ^ place z < 4 ^ 53
   part_lt =
       let e : 2 ^ (106 + (place z + place z)) ≡ 2 ^ 106 * 4 ^ place z = pow-add 2 106 (place z + place z) ∙ ap (λ (x : ℕ). 2 ^ 106 * x) (sym (four (place z))) in
-      (div-lt_iff_lt-mul (four_pos (place z))).1 (lt_of_lt_of_le z-lt (le_trans (pow_mono {i = z} {j = 106 + (place z + place z)} (fit z big)) (le_of_eq e)))
-    where
-      fit : (z : ℕ) → 1074 < z → z ≤ 106 + (place z + place z)
-      fit z h = omega arith
+      (div-lt_iff_lt-mul (four_pos (place z))).1 (lt_of_lt_of_le z-lt (le_trans (pow_mono {i = z} {j = 106 + (place z + place z)} (omega (arith, big))) (le_of_eq e)))
 
   part_ge : 2 ^ 104 ≤ n / 4 ^ place z
   part_ge =
       let e : 2 ^ 104 * 4 ^ place z ≡ 2 ^ (104 + (place z + place z)) = ap (λ (x : ℕ). 2 ^ 104 * x) (four (place z)) ∙ sym (pow-add 2 104 (place z + place z)) in
-      (le-div_iff_mul-le (four_pos (place z))).1 (le_trans (le_of_eq e) (z-ge (104 + (place z + place z)) (fit z big)))
-    where
-      fit : (z : ℕ) → 1074 < z → 104 + (place z + place z) < z
-      fit z h = omega arith
+      (le-div_iff_mul-le (four_pos (place z))).1 (le_trans (le_of_eq e) (z-ge (104 + (place z + place z)) (omega (arith, big))))
 
   lead_floor : Floor (n / 4 ^ place z) (lead n z)
   lead_floor = isqrt_floor 53 (n / 4 ^ place z) part_lt
 
   lead_ge : 2 ^ 52 ≤ lead n z
-  lead_ge = le_of_suc-le-suc (lt_of_not-le (λ (g : suc (lead n z) ≤ 2 ^ 52). no (mul-le-mul (next (lead n z) g) (next (lead n z) g)) lead_floor.1 part_ge))
-    where
-      next : (q : ℕ) → suc q ≤ 2 ^ 52 → q + 1 ≤ 2 ^ 52
-      next q g = omega arith
-
-      no : {a b : ℕ} → a ≤ 2 ^ 52 * 2 ^ 52 → b < a → 2 ^ 104 ≤ b → ⊥
-      no x y w = omega arith
+  lead_ge = le_of_suc-le-suc (lt_of_not-le (λ (g : suc (lead n z) ≤ 2 ^ 52). let h : lead n z + 1 ≤ 2 ^ 52 = omega arith in omega (arith, mul-le-mul h h, lead_floor.1, part_ge)))
 
   lead_lt : lead n z < 2 ^ 53
-  lead_lt = lt_of_not-le (λ (g : 2 ^ 53 ≤ lead n z). no (mul-le-mul g g) lead_floor.0 part_lt)
-    where
-      no : {a b : ℕ} → 2 ^ 53 * 2 ^ 53 ≤ a → a ≤ b → b < 4 ^ 53 → ⊥
-      no x y w = omega arith
+  lead_lt = lt_of_not-le (λ (g : 2 ^ 53 ≤ lead n z). omega (arith, mul-le-mul g g, lead_floor.0, part_lt))
 
   n_ge : lead n z * lead n z * 4 ^ place z ≤ n
   n_ge = le_trans (mul-le-mul_right (4 ^ place z) lead_floor.0) (div-mul-le_self n (4 ^ place z))
@@ -88,13 +73,10 @@ of_digits n z big few z-lt z-ge =
     let q = lead n z in
     let o = compare (4 * n) ((2 * q + 1) * (2 * q + 1) * 4 ^ place z) in
     let digits : kept n z ≤ 2 ^ 53 = le_trans (nearest-le q o) (lead_lt n z big z-lt z-ge) in
-    let under : 2 ^ 53 * 2 ^ place z < 2 ^ 2098 = lt_of_le_of_lt (le_of_eq (sym (pow-add 2 53 (place z)))) (pow-lt {i = 53 + place z} {j = 2098} (fit z few)) in (
+    let under : 2 ^ 53 * 2 ^ place z < 2 ^ 2098 = lt_of_le_of_lt (le_of_eq (sym (pow-add 2 53 (place z)))) (pow-lt {i = 53 + place z} {j = 2098} (omega (arith, few))) in (
       units_val binary64 false (kept n z) (place z) (lt_of_le_of_lt (mul-le-mul_right (2 ^ place z) digits) under),
       chosen n q (place z) (lead_ge n z big z-lt z-ge) (n_ge n z big z-lt z-ge) (n_lt n z big z-lt z-ge),
     )
-  where
-    fit : (z : ℕ) → z ≤ 3172 → 53 + place z < 2098
-    fit z h = omega arith
 
 root_units_nearest : (c : ℕ) → 0 < c → c < 2 ^ 2098 → (r : ℕ) × Units (root_units binary64 c) r × Nearest (c * 2 ^ 1074) r
 root_units_nearest c p h =
@@ -110,13 +92,7 @@ units_lt b h = go (b / 2 ^ 52) (b % 2 ^ 52) (omega arith) (omega arith)
   where
     go : (x t : ℕ) → x < 2047 → t < 2 ^ 52 → units_at x t < 2 ^ 2098
     go zero t h g = unfold units_at in lt_of_lt_of_le g (pow_mono {i = 52} {j = 2098} (lit≤ tt))
-    go (suc x) t h g = unfold units_at in lt_of_lt_of_le (shl_lt 53 x (wide t g)) (pow_mono {i = 53 + x} {j = 2098} (fit x h))
-      where
-        wide : (t : ℕ) → t < 2 ^ 52 → 2 ^ 52 + t < 2 ^ 53
-        wide t g = omega arith
-
-        fit : (x : ℕ) → suc x < 2047 → 53 + x ≤ 2098
-        fit x h = omega arith
+    go (suc x) t h g = unfold units_at in lt_of_lt_of_le (shl_lt 53 x (omega arith)) (pow_mono {i = 53 + x} {j = 2098} (omega arith))
 
 -- every f64 that is not negative is held
 

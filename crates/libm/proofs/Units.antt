@@ -30,10 +30,7 @@ value : (s : Bool) (x t : ℕ) (m : ℕ) (e : ℤ) → of_fields binary64 s x t 
 unfolding of_fields units_at
 value s zero t m e h =
     let v : HasValue (fin false m e) s (t * 2 ^ 0) (2 ^ 1074) = subst (λ (y : Float). HasValue y s (t * 2 ^ 0) (2 ^ 1074)) h (odd_sign 53 s t 0 1074) in
-    (sym v.0, no, v.1 ∙ ap (λ (y : ℕ). y * down e) (mul-one t))
-  where
-    no : ◌≡◌ {A = ℕ} 0 2047 → ⊥
-    no z = omega arith
+    (sym v.0, λ z. omega (arith, z), v.1 ∙ ap (λ (y : ℕ). y * down e) (mul-one t))
 value s (suc x) t m e h = go (eqb (suc x) 2047) (λ z. eq→eqb z) h
   where
     go : (b : Bool) → (suc x ≡ 2047 → T b) → cond b (cond (eqb t 0) (inf s) nan) (odd 53 s (2 ^ 52 + t) x 1074) ≡ fin false m e
@@ -55,9 +52,6 @@ no_zero m e p h = lt_irrefl 0 (subst (λ (y : ℕ). 0 < y) (h ∙ zero-mul (down
 pub counted : (m : ℕ) (e : ℤ) → T (fits binary64 (fin false m e)) → 0 < m → Counted m e (to_bits binary64 (fin false m e))
 counted m e f p = go (to_bits binary64 (fin false m e)) (sym (of_bits_is _) ∙ of_bits-to_bits binary64 (fin false m e) f)
   where
-    small : (b : ℕ) → b < 2 ^ 63 → (b / 2 ^ 52 ≡ 2047 → ⊥) → b < 2047 * 2 ^ 52
-    small b h n = omega arith
-
     positive : (b : ℕ) → m * up e * 2 ^ 1074 ≡ units_of b * down e → 0 < b
     positive zero q = absurd (no_zero m e p q)
     positive (suc b) q = zero-lt-suc b
@@ -69,4 +63,4 @@ counted m e f p = go (to_bits binary64 (fin false m e)) (sym (of_bits_is _) ∙ 
         let same : b % 2 ^ 63 ≡ b = mod-eq_of_lt l in
         let n : b / 2 ^ 52 ≡ 2047 → ⊥ = λ z. v.1 (ap (λ (y : ℕ). y / 2 ^ 52) same ∙ z) in
         let q : m * up e * 2 ^ 1074 ≡ units_of b * down e = v.2 ∙ ap (λ (y : ℕ). units_at (y / 2 ^ 52) (b % 2 ^ 52) * down e) same in
-        (positive b q, small b l n, ap (λ (y : ℕ). y / down e) q ∙ mul-div_cancel (units_of b) (down_pos e), q)
+        (positive b q, omega (arith, l, n), ap (λ (y : ℕ). y / down e) q ∙ mul-div_cancel (units_of b) (down_pos e), q)

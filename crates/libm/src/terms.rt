@@ -1,58 +1,82 @@
 // The steps of the arc cosine and of the sine: their fixed table, and the value that the arc cosine's
 // 48 steps give.
 ghost use Rattle.std.specs.Prelude.{◌≡◌, ◌-◌, ◌≤◌, Float};
-ghost use Rattle.time.specs.Float.{whole, one64};
-ghost use Rattle.libm.specs.Libm.{denominator, acos_steps};
+ghost use Rattle.time.specs.Float.{one64};
+ghost use Rattle.libm.specs.Libm.{acos_steps};
 ghost use Rattle.libm.specs.Enclosure.{run, Within, Square, Bound, Encloses};
 
 use super::float::to_bits;
 
 // Two values that a third lies between.
-#[derive(Drop)]
-pub(crate) struct Bounds {
-    pub(crate) low: f64,
-    pub(crate) high: f64,
+#[derive(Clone, Copy)]
+struct Bounds {
+    low: f64,
+    high: f64,
 }
 
-// (2k-1)^2, for k from 1 to 48
-const NUMERATORS: [u16; 48] = [
-    1, 9, 25, 49, 81, 121, 169, 225, 289, 361, 441, 529, 625, 729, 841, 961, 1089, 1225, 1369,
-    1521, 1681, 1849, 2025, 2209, 2401, 2601, 2809, 3025, 3249, 3481, 3721, 3969, 4225, 4489, 4761,
-    5041, 5329, 5625, 5929, 6241, 6561, 6889, 7225, 7569, 7921, 8281, 8649, 9025,
+// (2k-1)^2 and 2k(2k+1), for k from 1 to 48
+pub(crate) const TERMS: [(u16, u16); 48] = [
+    (1, 6),
+    (9, 20),
+    (25, 42),
+    (49, 72),
+    (81, 110),
+    (121, 156),
+    (169, 210),
+    (225, 272),
+    (289, 342),
+    (361, 420),
+    (441, 506),
+    (529, 600),
+    (625, 702),
+    (729, 812),
+    (841, 930),
+    (961, 1056),
+    (1089, 1190),
+    (1225, 1332),
+    (1369, 1482),
+    (1521, 1640),
+    (1681, 1806),
+    (1849, 1980),
+    (2025, 2162),
+    (2209, 2352),
+    (2401, 2550),
+    (2601, 2756),
+    (2809, 2970),
+    (3025, 3192),
+    (3249, 3422),
+    (3481, 3660),
+    (3721, 3906),
+    (3969, 4160),
+    (4225, 4422),
+    (4489, 4692),
+    (4761, 4970),
+    (5041, 5256),
+    (5329, 5550),
+    (5625, 5852),
+    (5929, 6162),
+    (6241, 6480),
+    (6561, 6806),
+    (6889, 7140),
+    (7225, 7482),
+    (7569, 7832),
+    (7921, 8190),
+    (8281, 8556),
+    (8649, 8930),
+    (9025, 9312),
 ];
 
-// 2k(2k+1), for k from 1 to 48
-const DENOMINATORS: [u16; 48] = [
-    6, 20, 42, 72, 110, 156, 210, 272, 342, 420, 506, 600, 702, 812, 930, 1056, 1190, 1332, 1482,
-    1640, 1806, 1980, 2162, 2352, 2550, 2756, 2970, 3192, 3422, 3660, 3906, 4160, 4422, 4692, 4970,
-    5256, 5550, 5852, 6162, 6480, 6806, 7140, 7482, 7832, 8190, 8556, 8930, 9312,
-];
-
-pub(crate) fn denominator(k: usize) -> f64
-    requires { (1 ≤ k) × (k ≤ 48) }
-    ensures { result ≡ whole (denominator k) }
-{
-    let i = k - 1;
-    DENOMINATORS[i] as f64
-}
-
-// The steps from `from` down to `to`, with the square `least` from `start.low` and with `most` from
-// `start.high`.
-fn steps(least: f64, most: f64, from: usize, to: usize, start: Bounds) -> Bounds
+// The steps from `from` down to `to`: with the lower square from the lower value, and with the upper
+// from the upper.
+fn steps(squares: Bounds, from: usize, to: usize, start: Bounds) -> Bounds
     requires { (to ≤ from) × (from ≤ 48) }
-    ensures { (result.low ≡ run (from - to) to least start.low) × (result.high ≡ run (from - to) to most start.high) }
+    ensures { (result.low ≡ run (from - to) to squares.low start.low) × (result.high ≡ run (from - to) to squares.high start.high) }
 {
-    let numerators = NUMERATORS;
-    let denominators = DENOMINATORS;
-    let mut low = start.low;
-    let mut high = start.high;
-    let mut k = from;
-    while to < k {
-        let i = k - 1;
-        let c = numerators[i] as f64 / denominators[i] as f64;
-        low = 1.0 + least * c * low;
-        high = 1.0 + most * c * high;
-        k = i;
+    let Bounds { mut low, mut high } = start;
+    for &(numerator, denominator) in TERMS[to..from].iter().rev() {
+        let c = numerator as f64 / denominator as f64;
+        low = 1.0 + squares.low * c * low;
+        high = 1.0 + squares.high * c * high;
     }
     Bounds { low, high }
 }
@@ -62,16 +86,8 @@ fn start(k: usize) -> Bounds
     requires { k ≤ 48 }
     ensures { Bound result.low × Bound result.high × ((least most : Float) → Square least → Square most → Encloses least most k result.low result.high) }
 {
-    if k == 48 {
-        return Bounds {
-            low: 1.0,
-            high: 1.0,
-        };
-    }
-    Bounds {
-        low: 1.0,
-        high: 2.0,
-    }
+    let high = if k == 48 { 1.0 } else { 2.0 };
+    Bounds { low: 1.0, high }
 }
 
 // Where to start, so that the bounds meet: each step brings them nearer to each other by as many
@@ -84,24 +100,21 @@ fn enough(square: f64) -> usize
         return 48;
     }
     let zeros = (0x3ff0_0000_0000_0000 - bits) / 0x1000_0000_0000;
-    let k = 13568 / zeros + 2;
-    if k < 8 {
-        return 8;
-    }
-    if 48 < k {
-        return 48;
-    }
-    k as usize
+    (13568 / zeros + 2).clamp(8, 48) as usize
 }
 
-// The bounds after the last step: a step keeps the order. The square itself is used in the last eight alone, so that the
-// first ones need not wait for the root.
-fn enclosed(square: f64, least: f64, most: f64, k: usize) -> Bounds
-    requires { Square least × Square most × Within least most square × (8 ≤ k) × (k ≤ 48) }
+// The bounds after the last step, from `near` about the square: a step keeps the order. The square itself is used in the last
+// eight alone, so that the first ones need not wait for the root.
+fn enclosed(square: f64, near: Bounds, k: usize) -> Bounds
+    requires { Square near.low × Square near.high × Within near.low near.high square × (8 ≤ k) × (k ≤ 48) }
     ensures { Bound result.low × Bound result.high × Encloses square square 0 result.low result.high }
 {
-    let rough = steps(least, most, k, 8, start(k));
-    steps(square, square, 8, 0, rough)
+    let rough = steps(near, k, 8, start(k));
+    let exactly = Bounds {
+        low: square,
+        high: square,
+    };
+    steps(exactly, 8, 0, rough)
 }
 
 // What the 48 steps give, with `near` about the square of z: bounds that meet have it between them.
@@ -109,27 +122,27 @@ pub(crate) fn acos_sum(z: f64, near: f64) -> f64
     ensures { result ≡ acos_steps 48 z one64 }
 {
     let square = z * z;
-    let least = near * 0.9999999999999991;
-    let most = near * 1.0000000000000009;
-    if (8.673617379884035e-19 <= least)
-        & (least <= square)
-        & (square <= most)
-        & (most <= 0.50390625)
+    let around = Bounds {
+        low: near * 0.9999999999999991,
+        high: near * 1.0000000000000009,
+    };
+    if (8.673617379884035e-19 <= around.low)
+        & (around.low <= square)
+        & (square <= around.high)
+        & (around.high <= 0.50390625)
     {
-        let bounds = enclosed(square, least, most, enough(near));
+        let bounds = enclosed(square, around, enough(near));
         if bounds.high <= bounds.low {
             return bounds.low;
         }
     }
-    steps(
-        square,
-        square,
-        48,
-        0,
-        Bounds {
-            low: 1.0,
-            high: 1.0,
-        },
-    )
-    .low
+    let exactly = Bounds {
+        low: square,
+        high: square,
+    };
+    let one = Bounds {
+        low: 1.0,
+        high: 1.0,
+    };
+    steps(exactly, 48, 0, one).low
 }

@@ -3,8 +3,9 @@ ghost use Rattle.std.specs.Prelude.{◌≡◌};
 ghost use Rattle.libm.specs.Libm.{acos, sin};
 
 use super::root::sqrt;
-use super::terms::{acos_sum, denominator};
+use super::terms::{TERMS, acos_sum};
 
+#[tactic(auto, unfolding(crate::specs::Libm::acos))]
 pub fn acos(d: f64) -> f64
     ensures { result ≡ acos d }
 {
@@ -16,11 +17,9 @@ pub fn acos(d: f64) -> f64
 pub fn sin(a: f64) -> f64
     ensures { result ≡ sin a }
 {
-    let mut s = 1.0f64;
-    let mut k = 10usize;
-    while 0 < k {
-        s = 1.0 - a * a / denominator(k) * s;
-        k = k - 1;
+    let mut s = 1.0;
+    for &(_, denominator) in TERMS[..10].iter().rev() {
+        s = 1.0 - a * a / denominator as f64 * s;
     }
     a * s
 }

@@ -6,13 +6,6 @@ use std::io::{ErrorKind, Read};
 use std::rt::Files;
 use std::{fs, io};
 
-// How many bytes the file has, which stand at the buffer's start, or that they are not there.
-#[derive(Drop)]
-pub(crate) enum File {
-    Bytes(usize),
-    Unread,
-}
-
 // Reads until the buffer is full or the file ends, and answers how many bytes came.
 fn fill(file: &mut impl Read, buf: &mut [u8]) -> io::Result<usize>
     ensures { IfOk result (λ n. n ≤ length buf.old) }
@@ -42,25 +35,25 @@ fn read_whole(file: &mut impl Read, buf: &mut [u8]) -> io::Result<Option<usize>>
     Ok(if more == 0 { Some(count) } else { None })
 }
 
-// Reads the file of that name.
-pub(crate) fn read(rt: &(impl Files + Eprint), path: &str, buf: &mut [u8]) -> File {
+// Reads the file of that name, and answers how many bytes it has, which then stand at the buffer's start.
+pub(crate) fn read(rt: &(impl Files + Eprint), path: &str, buf: &mut [u8]) -> Option<usize> {
     let mut file = match fs::open(rt, path) {
         Ok(file) => file,
         Err(error) => {
             failure::say(rt, path, error);
-            return File::Unread;
+            return None;
         }
     };
     match read_whole(&mut file, buf) {
-        Ok(Some(count)) => File::Bytes(count),
+        Ok(Some(count)) => Some(count),
         Ok(None) => {
             let most = buf.len();
             let _ = eprintln!(rt; "{path}: larger than {most} bytes, the most that is read");
-            File::Unread
+            None
         }
         Err(error) => {
             failure::say(rt, path, error);
-            File::Unread
+            None
         }
     }
 }

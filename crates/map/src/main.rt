@@ -6,15 +6,13 @@ mod files;
 mod frames;
 mod lines;
 mod names;
-mod records;
 mod refusals;
 mod tree;
 
-use buffer::max_age::MaxAge;
 use console::output::Output;
-use files::File;
-use map_loading::answer::Loaded;
+use map_file::file::MapFile;
 use map_loading::load_map;
+use registry::store::StoreMut;
 use std::rt::{Env, Files};
 
 // The largest file that is read. It stands on the stack.
@@ -29,33 +27,30 @@ const ROWS: u64 = 256;
 const SAMPLES: u64 = 1;
 
 // Loads the file into the store and prints what came of it.
-fn show(rt: &impl Output, head: &mut [u64], instants: &mut [u64], poses: &mut [f64], map: &[u8]) {
-    registry::open::open(head, instants, poses, ROWS, SAMPLES, MaxAge::Unlimited);
-    let loaded = load_map::load_map(head, instants, poses, map);
-    let Loaded::Done = loaded else {
-        refusals::print(rt, map, loaded);
-        return;
-    };
-    tree::print(rt, head, instants, poses, map);
+fn show(rt: &impl Output, store: &mut StoreMut<'_>, map: &[u8]) {
+    let _ = store.open(ROWS, SAMPLES, None);
+    if let Err(error) = load_map::load_map(store, map) {
+        refusals::print(rt, map, error);
+    } else if let Ok(file) = MapFile::parse(map) {
+        tree::print(rt, &store.as_ref(), &file);
+    }
 }
 
 // Reads the file that the program is asked for and shows it.
 fn run(
     rt: &(impl Env + Files + Output),
-    head: &mut [u64],
-    instants: &mut [u64],
-    poses: &mut [f64],
+    store: &mut StoreMut<'_>,
     map: &mut [u8; FILE_BYTES],
     path: &mut [u8],
 ) {
     let Some(name) = arguments::file_name(rt, path) else {
         return;
     };
-    let File::Bytes(n) = files::read(rt, name, map) else {
+    let Some(count) = files::read(rt, name, map) else {
         return;
     };
-    if n <= map.len() {
-        show(rt, head, instants, poses, &map[0..n]);
+    if let Some(file) = map.get(..count) {
+        show(rt, store, file);
     }
 }
 
@@ -65,12 +60,10 @@ fn main(rt: HostRuntime) {
     let mut poses = [0.0f64; 1792];
     let mut map = [0u8; FILE_BYTES];
     let mut path = [0u8; PATH_BYTES];
-    run(
-        &rt,
-        &mut head,
-        &mut instants,
-        &mut poses,
-        &mut map,
-        &mut path,
-    );
+    let mut store = StoreMut {
+        head: &mut head,
+        instants: &mut instants,
+        poses: &mut poses,
+    };
+    run(&rt, &mut store, &mut map, &mut path);
 }

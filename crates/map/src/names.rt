@@ -1,32 +1,28 @@
 // Names as they are printed: a byte that is no printable character, and the backslash, by its hexadecimal digits.
-use map_file::book;
+use map_file::file::MapFile;
+use text::Writer;
 
-// Whether the byte stands for itself.
-fn is_plain(b: u8) -> bool {
-    (32 <= b) & (b <= 126) & (b != b'\\')
+fn put_byte(out: &mut Writer<'_>, byte: u8) {
+    match byte {
+        b'\\' | 0..=31 | 127..=255 => {
+            out.write_bytes(b"\\x");
+            out.write_byte(byte);
+        }
+        _ => out.write_bytes(&[byte]),
+    }
 }
 
-fn put_byte(out: &mut [u8], at: usize, b: u8) -> usize {
-    if is_plain(b) {
-        return text::write_bytes(out, at, &[b]);
+pub(crate) fn put_name(out: &mut Writer<'_>, name: &[u8]) {
+    for byte in name {
+        put_byte(out, *byte);
     }
-    let next = text::write_bytes(out, at, b"\\x");
-    text::write_byte(out, next, b)
-}
-
-pub(crate) fn put_name(out: &mut [u8], at: usize, name: &[u8]) -> usize {
-    let mut to = at;
-    let mut i = 0;
-    while i < name.len() {
-        to = put_byte(out, to, name[i]);
-        i += 1;
-    }
-    to
 }
 
 // A frame's number and its name.
-pub(crate) fn put_frame(out: &mut [u8], at: usize, map: &[u8], frame: u32) -> usize {
-    let second = text::write_number(out, at, frame as u64);
-    let third = text::write_bytes(out, second, b" ");
-    put_name(out, third, book::name(map, frame))
+pub(crate) fn put_frame(out: &mut Writer<'_>, file: &MapFile<'_>, frame: u32) {
+    out.write_number(u64::from(frame));
+    out.write_bytes(b" ");
+    if let Some(name) = file.name_of(frame) {
+        put_name(out, name.bytes);
+    }
 }

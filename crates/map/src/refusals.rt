@@ -1,77 +1,79 @@
 // Why a map is refused, in words.
-use crate::{lines, names, records};
+use crate::{lines, names};
 use console::output::Output;
 use console::{figures, refusals};
-use map_loading::answer::Loaded;
-use registry::answer::{Carried, Reply};
+use map_file::file::MapFile;
+use map_file::record::Record;
+use map_loading::error::LoadError;
+use registry::error::{Carried, RegistryError};
+use text::Writer;
 
 // What the refusal carries: a norm, or the parent that the child has.
-fn put_carried(out: &mut [u8], at: usize, map: &[u8], reply: Reply) -> usize {
-    let Reply::Refusal(_, carried) = reply else {
-        return at;
-    };
-    match carried {
+fn put_carried(out: &mut Writer<'_>, file: &MapFile<'_>, error: RegistryError) {
+    match error.carried() {
         Carried::Norm(norm) => {
-            let next = text::write_bytes(out, at, b"; the norm is ");
-            figures::put_figure(out, next, norm)
+            out.write_bytes(b"; the norm is ");
+            figures::put_figure(out, norm);
         }
         Carried::Frame(frame) => {
-            let next = text::write_bytes(out, at, b"; its parent is ");
-            names::put_frame(out, next, map, frame)
+            out.write_bytes(b"; its parent is ");
+            names::put_frame(out, file, frame);
         }
-        _ => at,
+        Carried::Nothing | Carried::Hop(..) => {}
     }
 }
 
 // The first line: the record, and what is wrong with it.
-fn print_record(rt: &impl Output, out: &mut [u8], n: u32, reply: Reply) {
-    let second = text::write_bytes(out, 0, b"record ");
-    let third = text::write_number(out, second, n as u64);
-    let fourth = text::write_bytes(out, third, b", counted from 0, is ");
-    let end = refusals::put_number(out, fourth, refusals::number(reply));
-    lines::print(rt, out, end);
+fn print_record(rt: &impl Output, out: &mut Writer<'_>, n: u32, error: RegistryError) {
+    out.write_bytes(b"record ");
+    out.write_number(u64::from(n));
+    out.write_bytes(b", counted from 0, is ");
+    refusals::put_number(out, error.number());
+    lines::print(rt, out);
 }
 
 // The second line: the names of the record, and what the refusal carries.
-fn print_names(rt: &impl Output, out: &mut [u8], map: &[u8], n: u32, reply: Reply) {
-    let place = records::place(map, n);
-    let second = text::write_bytes(out, 0, b"  child ");
-    let third = names::put_name(out, second, records::child(map, place));
-    let fourth = text::write_bytes(out, third, b", parent ");
-    let fifth = names::put_name(out, fourth, records::parent(map, place));
-    let end = put_carried(out, fifth, map, reply);
-    lines::print(rt, out, end);
-}
-
-// What the form of a file can be refused for.
-fn put_form(out: &mut [u8], at: usize, loaded: Loaded) -> usize {
-    let Loaded::MapForm = loaded else {
-        return at;
-    };
-    text::write_bytes(
-        out,
-        at,
-        b": wrong mark, version or length byte, cut short, or bytes left over",
-    )
+fn print_names(
+    rt: &impl Output,
+    out: &mut Writer<'_>,
+    file: &MapFile<'_>,
+    record: Record<'_>,
+    error: RegistryError,
+) {
+    out.write_bytes(b"  child ");
+    names::put_name(out, record.child.bytes);
+    out.write_bytes(b", parent ");
+    names::put_name(out, record.parent.bytes);
+    put_carried(out, file, error);
+    lines::print(rt, out);
 }
 
 // A file that is refused as a whole.
-fn print_whole(rt: &impl Output, out: &mut [u8], loaded: Loaded) {
-    let reply = Reply::of_tree(loaded.answer());
-    let second = text::write_bytes(out, 0, b"the map is ");
-    let third = refusals::put_number(out, second, refusals::number(reply));
-    let end = put_form(out, third, loaded);
-    lines::print(rt, out, end);
+fn print_whole(rt: &impl Output, out: &mut Writer<'_>, error: LoadError) {
+    out.write_bytes(b"the map is ");
+    refusals::put_number(out, error.number());
+    if error == LoadError::MapForm {
+        out.write_bytes(b": wrong mark, version or length byte, cut short, or bytes left over");
+    }
+    lines::print(rt, out);
 }
 
 // Prints what a load was refused with.
-pub(crate) fn print(rt: &impl Output, map: &[u8], loaded: Loaded) {
+pub(crate) fn print(rt: &impl Output, map: &[u8], error: LoadError) {
     let mut line = [0u8; lines::LINE_BYTES];
-    let out: &mut [u8] = &mut line;
-    let Loaded::Record(n, refused) = loaded else {
-        print_whole(rt, out, loaded);
+    let mut out = Writer {
+        out: &mut line,
+        at: 0,
+    };
+    let LoadError::Record(n, cause) = error else {
+        print_whole(rt, &mut out, error);
         return;
     };
-    print_record(rt, out, n, Reply::of_tree(refused));
-    print_names(rt, out, map, n, Reply::of_tree(refused));
+    print_record(rt, &mut out, n, cause);
+    let Ok(file) = MapFile::parse(map) else {
+        return;
+    };
+    if let Some(record) = file.records().nth(n as usize) {
+        print_names(rt, &mut out, &file, record, cause);
+    }
 }

@@ -2,9 +2,9 @@
 -- names that come later stand behind.
 use mathlib.Core.Path.{◌≡◌, refl, sym, ap, ◌∙◌}
 use mathlib.Core.Bool.{Bool, true, false, cond, not, ◌&&◌, ◌||◌, or_assoc, or-false}
-use Rattle.std.specs.Prelude.{None, Some}
+use Rattle.std.specs.Prelude.{Some}
 use mathlib.Core.List.{List, [], ◌∷◌, ◌++◌, append_assoc, append-nil}
-use Prim.Native.Nat.{ℕ, zero, suc, ◌≤◌, ◌<◌}
+use Prim.Native.Nat.{ℕ, zero, suc, ◌<◌}
 use native.Mathlib.Omega.{arith}
 use lib.ListN.{length}
 use borrow.Author.Tests.{not-true}
@@ -105,15 +105,6 @@ position_behind n (x ∷ xs) ys h =
     both (same n x)
     (λ e. absurd (false_true (sym h ∙ rw e refl)))
     (λ e. rw e (ap suc (position_behind n xs ys (rw e at h))))
-
-pub at_behind : (n : Name) (xs ys : List Name) → at_number (length xs) (xs ++ (n ∷ ys)) ≡ Some n
-at_behind n [] ys = refl
-at_behind n (x ∷ xs) ys = at_behind n xs ys
-
-pub at_none : (k : ℕ) (xs : List Name) → length xs ≤ k → at_number k xs ≡ None
-at_none k [] h = refl
-at_none zero (x ∷ xs) h = absurd (omega arith)
-at_none (suc k) (x ∷ xs) h = at_none k xs (omega arith)
 
 pub at_some : (k : ℕ) (xs : List Name) → k < length xs → (name : Name) × (at_number k xs ≡ Some name)
 at_some k [] h = absurd (omega arith)

@@ -4,6 +4,7 @@ use mathlib.Core.Path.{◌≡◌, refl, sym, ap, ◌∙◌, subst}
 use mathlib.Core.Bool.{true, ◌&&◌}
 use Rattle.std.specs.Prelude.{Option, Some}
 use mathlib.Core.List.{List, [], ◌∷◌, ◌++◌, append_assoc, append-nil}
+use Rattle.std.proofs.lemmas.Option.{cond_some}
 use native.Mathlib.Omega.{arith}
 use borrow.Author.Tests.{lt-ltb, ltb-true, eq-eqb, eqb-true}
 use lib.Dec.{eqb, ltb}
@@ -17,24 +18,24 @@ use Rattle.map_file.specs.Form.{Record, ◌and_then◌, times, number_bytes, num
 use Rattle.map_file.specs.Laws.{Bytes, FormBothWays}
 use Rattle.map_file.proofs.BookSame.{same_is, same_self}
 use Rattle.map_file.proofs.Steps.{steps, then_some}
-use Rattle.map_file.proofs.BothWays.{BothWays, left_bytes, passed, number_ways, times_ways}
+use Rattle.map_file.proofs.BothWays.{BothWays, left_bytes, number_ways, times_ways}
 use Rattle.map_file.proofs.RecordWays.{record_ways}
 
 -- ---- these very bytes
 
 fixed_ways : (expected : List ℕ) → BothWays (fixed_from expected) (λ bytes. bytes) (λ bytes. same bytes expected)
-fixed_ways expected = record { forth = forth; back = back }
+fixed_ways expected = record { forth = fixed_forth; back = fixed_back }
   where
-    forth : (bytes found rest : List ℕ) → Bytes bytes → fixed_from expected bytes ≡ Some (found, rest) → (bytes ≡ found ++ rest) × (same found expected ≡ true)
-    forth bytes found rest h e =
-        let r = passed (same (take (length expected) bytes) expected) _ _ e in
+    fixed_forth : (bytes found rest : List ℕ) → Bytes bytes → fixed_from expected bytes ≡ Some (found, rest) → (bytes ≡ found ++ rest) × (same found expected ≡ true)
+    fixed_forth bytes found rest h e =
+        let r = cond_some (same (take (length expected) bytes) expected) _ _ e in
         let here : expected ≡ found = ap (λ x. x.0) r.1 in
         let front : take (length expected) bytes ≡ found = same_is (take (length expected) bytes) expected r.0 ∙ here in
         let behind : drop (length expected) bytes ≡ rest = ap (λ x. x.1) r.1 in
         (sym (take-append-drop (length expected) bytes) ∙ (λ i. front i ++ behind i), subst (λ (l : List ℕ). same l expected ≡ true) here (same_self expected))
 
-    back : (found rest : List ℕ) → same found expected ≡ true → fixed_from expected (found ++ rest) ≡ Some (found, rest)
-    back found rest f =
+    fixed_back : (found rest : List ℕ) → same found expected ≡ true → fixed_from expected (found ++ rest) ≡ Some (found, rest)
+    fixed_back found rest f =
         let e : found ≡ expected = same_is found expected f in
         rw (e, take-append_seam expected rest, drop-append_seam expected rest, same_self expected)
 
@@ -43,7 +44,7 @@ fixed_ways expected = record { forth = forth; back = back }
 whole_read : {A : Type 0} (o : Option (A × List ℕ)) (a : A) → whole o ≡ Some a → o ≡ Some (a, [])
 whole_read o a e =
     let s = steps o _ a e in
-    let r = passed (eqb (length s.rest) 0) s.first a s.more in
+    let r = cond_some (eqb (length s.rest) 0) s.first a s.more in
     s.read ∙ (λ i. Some (r.1 i, empty s.rest (eqb-true (length s.rest) 0 r.0) i))
   where
     empty : (l : List ℕ) → length l ≡ 0 → l ≡ []
@@ -62,10 +63,10 @@ abbrev counted_bytes : List Record → List ℕ
 counted_bytes rs = number_bytes 2 (length rs) ++ concat_map record_bytes rs
 
 counted_ways : BothWays counted_from counted_bytes (λ rs. ltb (length rs) (2 ^ 16) && all record_fits rs)
-counted_ways = record { forth = forth; back = back }
+counted_ways = record { forth = counted_forth; back = counted_back }
   where
-    forth : (bytes : List ℕ) (rs : List Record) (rest : List ℕ) → Bytes bytes → counted_from bytes ≡ Some (rs, rest) → (bytes ≡ counted_bytes rs ++ rest) × ((ltb (length rs) (2 ^ 16) && all record_fits rs) ≡ true)
-    forth bytes rs rest h e =
+    counted_forth : (bytes : List ℕ) (rs : List Record) (rest : List ℕ) → Bytes bytes → counted_from bytes ≡ Some (rs, rest) → (bytes ≡ counted_bytes rs ++ rest) × ((ltb (length rs) (2 ^ 16) && all record_fits rs) ≡ true)
+    counted_forth bytes rs rest h e =
         let n = steps (number_from 2 bytes) _ (rs, rest) e in
         let wn = (number_ways 2).forth bytes n.first n.rest h n.read in
         let wr = (records_ways n.first).forth n.rest rs rest (left_bytes bytes (number_bytes 2 n.first) n.rest h wn.0) n.more in
@@ -74,8 +75,8 @@ counted_ways = record { forth = forth; back = back }
           and_both _ _ (subst (λ (k : ℕ). ltb k (2 ^ 16) ≡ true) count wn.1) (and_right (eqb (length rs) n.first) _ wr.1),
         )
 
-    back : (rs : List Record) (rest : List ℕ) → (ltb (length rs) (2 ^ 16) && all record_fits rs) ≡ true → counted_from (counted_bytes rs ++ rest) ≡ Some (rs, rest)
-    back rs rest f =
+    counted_back : (rs : List Record) (rest : List ℕ) → (ltb (length rs) (2 ^ 16) && all record_fits rs) ≡ true → counted_from (counted_bytes rs ++ rest) ≡ Some (rs, rest)
+    counted_back rs rest f =
         let body = concat_map record_bytes rs ++ rest in
         ap counted_from (append_assoc (number_bytes 2 (length rs)) (concat_map record_bytes rs) rest)
         ∙ then_some (number_from 2 (number_bytes 2 (length rs) ++ body)) (λ count third. times count record_from third) (length rs) body (rs, rest)

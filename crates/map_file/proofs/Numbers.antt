@@ -4,18 +4,13 @@ use mathlib.Core.Path.{◌≡◌, refl, ap}
 use mathlib.Core.List.{List, [], ◌∷◌}
 use native.Mathlib.Nat.{pow-suc}
 use native.Mathlib.Omega.{arith}
-use lib.ListN.{length, drop, get_or}
-use lib.Seq.{drop-cons}
+use lib.ListN.{length}
 use Rattle.map_file.specs.Form.{number, number_bytes}
 use Rattle.map_file.specs.Laws.{Bytes}
 use Rattle.map_file.proofs.ByteLists.{bytes_head, bytes_tail}
 
--- a byte in front
-pub number_more : (bytes : List ℕ) (i : ℕ) → i < length bytes → number (drop i bytes) ≡ get_or bytes i 0 + 256 * number (drop (suc i) bytes)
-number_more bytes i h = ap number (drop-cons bytes i 0 h)
-
 -- a number below 256^k with a byte in front is below 256^(k+1)
-pub below_more : (k b n : ℕ) → b < 256 → n < 256 ^ k → b + 256 * n < 256 ^ suc k
+below_more : (k b n : ℕ) → b < 256 → n < 256 ^ k → b + 256 * n < 256 ^ suc k
 below_more k b n h g = rw (pow-suc 256 k) (omega arith)
 
 pub number_below : (bytes : List ℕ) → Bytes bytes → number bytes < 256 ^ length bytes

@@ -8,6 +8,7 @@ use borrow.Author.Tests.{le-leb, leb-true}
 use lib.Dec.{leb}
 use lib.ListN.{length, take, drop, length-drop}
 use lib.Seq.{drop-drop}
+use Rattle.std.proofs.lemmas.List.{take-take, drop-take}
 use Rattle.buffer.proofs.Cases.{both}
 use Rattle.map_file.specs.Form.{times, number, number_from}
 use Rattle.map_file.specs.Reads.{words}
@@ -26,3 +27,9 @@ words_cut zero bytes h = absurd (omega arith)
 words_cut (suc n) bytes h = both (leb 8 (length bytes))
     (λ e. rw (e, words_cut n (drop 8 bytes) (omega (arith, length-drop 8 bytes, leb-true 8 (length bytes) e))))
     (λ e. rw e)
+
+pub words_take : (n : ℕ) (bytes : List ℕ) → words n (take (8 * n) bytes) ≡ words n bytes
+words_take zero bytes = refl
+words_take (suc n) bytes =
+    let e : 8 * suc n ≡ 8 + 8 * n = omega arith in
+    rw (take-take 8 (8 * suc n) bytes (omega arith), e, drop-take 8 (8 * n) bytes, words_take n (drop 8 bytes))

@@ -1,2 +1,3 @@
-pub mod Ends
+pub mod Rests
 pub mod Names
+pub mod Books

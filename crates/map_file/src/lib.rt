@@ -2,5 +2,8 @@
 #![tactic(auto)]
 
 pub mod book;
+pub mod file;
 pub mod form;
+mod names;
 pub mod record;
+pub mod records;

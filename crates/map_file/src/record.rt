@@ -1,9 +1,9 @@
-// What stands at a place of a file: a name, or a pose. The caller knows that it lies within the file.
-ghost use Rattle.std.specs.Prelude.{◌≡◌, ◌+◌, ◌*◌, ◌^◌, ◌≤◌, ◌<◌, length, take, drop};
+// The records of a map file, read one behind the other.
+ghost use Rattle.std.specs.Prelude.{◌≡◌, ◌+◌, ◌*◌, ◌^◌, ◌≤◌, ◌<◌, length, take, drop, option_map, IfSome};
 ghost use Rattle.std.specs.Float.{binary64};
 ghost use Rattle.std.specs.Float.Ieee.{of_bits};
-ghost use Rattle.map_file.specs.Form.{number};
-ghost use Rattle.map_file.specs.Reads.{behind_name, NameWithin, name_at, pose_at};
+ghost use Rattle.map_file.specs.Form.{number, name_from, record_from};
+ghost use Rattle.map_file.specs.Reads.{record_of, pose_of_words};
 
 use geometry::isometry::Isometry;
 use geometry::quaternion::Quaternion;
@@ -12,69 +12,106 @@ use geometry::vector3::Vector3;
 // The seven floats of a record.
 pub const POSE_BYTES: usize = 56;
 
-// The place behind the name whose length byte stands at the place.
-pub fn behind_name(map: &[u8], at: usize) -> usize
-    requires { NameWithin map.now at }
-    ensures { result ≡ behind_name map.now at }
-{
-    at + 1 + map[at] as usize
+// The most bytes that a name has.
+const LONGEST_NAME: u8 = 32;
+
+// A name: where its first byte stands in the file, and its bytes.
+#[derive(Clone, Copy)]
+pub struct Name<'a> {
+    pub start: usize,
+    pub bytes: &'a [u8],
 }
 
-// The bytes of that name.
-pub fn name_at(map: &[u8], at: usize) -> &[u8]
-    requires { NameWithin map.now at }
-    ensures { result.now ≡ name_at map.now at }
-{
-    let end = behind_name(map, at);
-    &map[at + 1..end]
+// A record: two names and the bytes of seven floats.
+#[derive(Clone, Copy)]
+pub struct Record<'a> {
+    pub child: Name<'a>,
+    pub parent: Name<'a>,
+    pub pose: &'a [u8; POSE_BYTES],
 }
 
-// The number whose lowest byte is `low`.
-fn with_low_byte(low: u8, high: u64) -> u64
-    requires { high < 2 ^ 56 }
-    ensures { result ≡ low + 256 * high }
+// The float whose eight bytes begin at a place.
+fn float_at(bytes: &[u8], at: usize) -> f64
+    requires { at + 8 ≤ length bytes.now }
+    ensures { result ≡ of_bits binary64 (number (take 8 (drop at bytes.now))) }
 {
-    low as u64 + 256 * high
+    let word = bytes[at..].first_chunk().unwrap();
+    libm::float::from_bits(u64::from_le_bytes(*word))
 }
 
-// The 64-bit number of eight bytes, little-endian.
-fn word(bytes: &[u8]) -> u64
-    requires { length bytes.now ≡ 8 }
-    ensures { result ≡ number bytes.now }
-{
-    let mut value = 0;
-    let mut i = 8;
-    while i > 0 {
-        i -= 1;
-        value = with_low_byte(bytes[i], value);
+impl Record<'_> {
+    // Its pose.
+    pub fn pose(&self) -> Isometry
+        ensures { result ≡ pose_of_words (record_of self.now).pose }
+    {
+        let bytes = self.pose;
+        Isometry {
+            translation: Vector3 {
+                x: float_at(bytes, 0),
+                y: float_at(bytes, 8),
+                z: float_at(bytes, 16),
+            },
+            rotation: Quaternion {
+                w: float_at(bytes, 24),
+                x: float_at(bytes, 32),
+                y: float_at(bytes, 40),
+                z: float_at(bytes, 48),
+            },
+        }
     }
-    value
 }
 
-// The float at a place.
-fn float_at(map: &[u8], at: usize) -> f64
-    requires { at + 8 ≤ length map.now }
-    ensures { result ≡ of_bits binary64 (number (take 8 (drop at map.now))) }
-{
-    libm::float::from_bits(word(&map[at..at + 8]))
+// What stands in a file from a place on.
+#[derive(Clone, Copy)]
+pub(crate) struct Rest<'a> {
+    pub(crate) start: usize,
+    pub(crate) bytes: &'a [u8],
+    ghost fits: { start + length bytes.now < 2 ^ 64 },
 }
 
-// The pose whose seven floats begin at the place.
-pub fn pose_at(map: &[u8], at: usize) -> Isometry
-    requires { at + 56 ≤ length map.now }
-    ensures { result ≡ pose_at map.now at }
-{
-    Isometry {
-        translation: Vector3 {
-            x: float_at(map, at),
-            y: float_at(map, at + 8),
-            z: float_at(map, at + 16),
-        },
-        rotation: Quaternion {
-            w: float_at(map, at + 24),
-            x: float_at(map, at + 32),
-            y: float_at(map, at + 40),
-            z: float_at(map, at + 48),
-        },
+impl<'a> Rest<'a> {
+    ghost use Rattle.map_file.specs.walks.Rests.{name_read, NamePlaced, record_read, RecordPlaced};
+
+    // A length byte of 1 to 32 and that many bytes, and what stands behind them.
+    fn name(self) -> Option<(Name<'a>, Rest<'a>)>
+        ensures read { option_map name_read result ≡ name_from self.entry.bytes.now }
+        ensures places { IfSome result (λ p. NamePlaced self.entry p.0 p.1) }
+    {
+        let (&count, bytes) = self.bytes.split_first()?;
+        if !(1..=LONGEST_NAME).contains(&count) {
+            return None;
+        }
+        let (name, bytes) = bytes.split_at_checked(count as usize)?;
+        let start = self.start + 1;
+        let name = Name { start, bytes: name };
+        Some((
+            name,
+            Rest {
+                start: start + count as usize,
+                bytes,
+            },
+        ))
+    }
+
+    // Two names and seven floats, and what stands behind them.
+    #[tactic(auto, using(crate::proofs::RecordParts::no_child, crate::proofs::RecordParts::no_parent, crate::proofs::RecordParts::no_pose, crate::proofs::RecordParts::all_parts))]
+    pub(crate) fn record(self) -> Option<(Record<'a>, Rest<'a>)>
+        ensures read { option_map record_read result ≡ record_from self.entry.bytes.now }
+        ensures places { IfSome result (λ p. RecordPlaced self.entry p.0 p.1) }
+    {
+        let (child, rest) = self.name()?;
+        let (parent, rest) = rest.name()?;
+        let (pose, bytes) = rest.bytes.split_first_chunk()?;
+        Some((
+            Record {
+                child,
+                parent,
+                pose,
+            },
+            Rest {
+                start: rest.start + POSE_BYTES,
+                bytes,
+            },
+        ))
     }
 }

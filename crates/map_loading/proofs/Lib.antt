@@ -8,8 +8,8 @@ pub mod LoadTests
 pub mod LoadedTree
 pub mod MapAdditions
 pub mod NamesBound
-pub mod RecordHere
+pub mod NumberFound
 pub mod RecordRefusals
 pub mod RecordRefused
 pub mod RefusedAsFound
-pub mod Table
+pub mod Turns

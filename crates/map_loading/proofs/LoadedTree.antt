@@ -32,10 +32,9 @@ use Rattle.registry.proofs.Held.{add_accepted, add_keeps_sound}
 use Rattle.registry.proofs.Fits.{answered, Only, on_refuse, on_then}
 use Rattle.map_file.specs.Form.{Name, Record}
 use Rattle.map_file.specs.Book.{numbered}
-use Rattle.map_file.proofs.BookTake.{numbered_longer}
 use Rattle.map_loading.specs.Laws.{record_refusals}
-use Rattle.map_loading.proofs.NamesBound.{FramesBelow, names_bound, position_most}
-use Rattle.map_loading.proofs.MapAdditions.{names_after, addition_after}
+use Rattle.map_loading.proofs.NamesBound.{FramesBelow, names_bound, position_most, numbered_longer}
+use Rattle.map_loading.specs.Numbering.{names_after, addition_after}
 
 abbrev is_static : Kind → Bool
 is_static Static = true

@@ -14,14 +14,7 @@ use Rattle.map_file.specs.Reads.{pose_of_words}
 use Rattle.map_file.proofs.BookSame.{same_self}
 use Rattle.map_file.proofs.BookLists.{among_numbered, goes_on, position_append, position_behind}
 use Rattle.map_loading.specs.Loading.{addition_of, additions}
-
--- the names with numbers behind a record, where these had one before it
-abbrev pub names_after : List Name → Record → List Name
-names_after names r = numbered (numbered names r.child) r.parent
-
--- its addition
-abbrev pub addition_after : List Name → Record → Addition
-addition_after names r = addition (position r.child names) (position r.parent (numbered names r.child)) Static (pose_of_words r.pose)
+use Rattle.map_loading.specs.Numbering.{names_after, addition_after}
 
 -- the additions of records, where these names have numbers before them
 abbrev pub additions_after : List Name → List Record → List Addition

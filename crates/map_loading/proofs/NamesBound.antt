@@ -1,12 +1,12 @@
 -- The frames of the tree while a map is loaded are numbers of names, and there are at most two names to an edge.
-use Prim.Native.Nat.{ℕ, ◌*◌, ◌≤◌, ◌<◌}
+use Prim.Native.Nat.{ℕ, ◌+◌, ◌*◌, ◌≤◌, ◌<◌}
 use mathlib.Core.Path.{◌≡◌, refl, ap, ◌∙◌}
 use mathlib.Core.Bool.{true, ◌&&◌}
 use Rattle.std.specs.Prelude.{Option, None, Some}
-use mathlib.Core.List.{List}
+use mathlib.Core.List.{List, [], ◌∷◌}
 use native.Mathlib.Omega.{arith}
 use lib.Dec.{ltb}
-use lib.ListN.{length}
+use lib.ListN.{length, length-append}
 use borrow.Author.Tests.{lt-ltb, ltb-true}
 use Rattle.time.specs.declared.stamp.Stamp.TheVariants.{Static}
 use Rattle.time.specs.Reply.{answer}
@@ -20,7 +20,6 @@ use Rattle.registry.proofs.Held.{Accepted, add_accepted}
 use Rattle.map_file.specs.Form.{Name}
 use Rattle.map_file.specs.Book.{among, numbered, position}
 use Rattle.map_file.proofs.BookLists.{at_below, at_position}
-use Rattle.map_file.proofs.BookTake.{numbered_longer}
 use Rattle.map_loading.proofs.MapAdditions.{position_absent, among_self, position_numbered}
 
 -- ---- frames below a number
@@ -48,6 +47,10 @@ below_held n k e t r h g =
     (ltb-true k n (and_left _ _ p), ltb-true e.parent n (and_right (ltb k n) _ p))
 
 -- ---- the numbers of names
+
+-- one name more at most
+pub numbered_longer : (n : Name) (names : List Name) → (length names ≤ length (numbered names n)) × (length (numbered names n) ≤ length names + 1)
+numbered_longer n names = both (among n names) (λ e. rw e (omega arith, omega arith)) (λ e. let l = length-append names (n ∷ []) in rw e (omega arith, omega arith))
 
 -- a name with a number below their count is among them
 pub position_among : (n : Name) (names : List Name) → position n names < length names → among n names ≡ true

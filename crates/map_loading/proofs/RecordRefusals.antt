@@ -15,7 +15,8 @@ use Rattle.map_loading.specs.Loading.{Loading, unless_refused, add_all, load_of}
 use Rattle.map_loading.specs.Laws as laws
 use Rattle.map_loading.specs.Laws.{RefusedWith, RecordRefusals}
 use Rattle.map_loading.proofs.LoadCases.{Load, none_read, read, load_cases}
-use Rattle.map_loading.proofs.MapAdditions.{names_after, addition_after, additions_after, additions_are}
+use Rattle.map_loading.specs.Numbering.{names_after, addition_after}
+use Rattle.map_loading.proofs.MapAdditions.{additions_after, additions_are}
 use Rattle.map_loading.proofs.LoadedTree.{LoadedSoFar, refused_only, loaded_more, loaded_first}
 
 -- what is said of a load that refuses a record

@@ -1,3 +1,4 @@
+pub mod Answers
 pub mod Loading
 pub mod Laws
-pub mod tables
+pub mod Numbering

@@ -1,17 +1,19 @@
 -- Loading a map into a store: what is answered, and every word afterwards.
-use Rattle.std.specs.Prelude.{ℕ, suc, not, List, [], ◌∷◌, map, Float}
-use Rattle.std.specs.Prelude.{Option, None, Some}
+use Rattle.std.specs.Prelude.{ℕ, suc, not, List, [], ◌∷◌, map}
+use Rattle.std.specs.Prelude.{Option, None, Some, Result, Ok, Err}
 use Rattle.time.specs.declared.stamp.Stamp.TheVariants.{Static}
-use Rattle.time.specs.Reply.{Reply, answer, refusal, nothing, refuse}
+use Rattle.time.specs.Reply.{Reply, answer, refusal, nothing, refuse, reply_by, ◌then◌}
 use Rattle.registry.specs.Tree.{Addition, addition, holds_no_frame}
 use Rattle.registry.specs.Store.{Store}
-use Rattle.registry.specs.Answers.{Value, done, reply_of}
-use Rattle.registry.specs.Calls.{store_of, on_tree, add_of}
+use Rattle.registry.specs.Answers.{Value, done}
+use Rattle.registry.specs.Calls.{words_mut, on_tree, add_of}
+use Rattle.registry.specs.declared.store.StoreMut.{StoreMut}
 use Rattle.map_file.specs.Form.{Name, Record, records, formed}
 use Rattle.map_file.specs.Book.{book, position}
 use Rattle.map_file.specs.Reads.{pose_of_words}
-use Rattle.map_loading.specs.declared.answer.Loaded.{Loaded}
-use Rattle.map_loading.specs.declared.answer.Loaded.TheVariants as loaded
+use Rattle.map_loading.specs.Answers.{refusal_of}
+use Rattle.map_loading.specs.declared.error.LoadError.{LoadError}
+use Rattle.map_loading.specs.declared.error.LoadError.TheVariants as error
 
 -- the reply, the number of the record whose refusal it is, if it is a record's, and the store
 pub record Loading : Type 0 where
@@ -51,26 +53,20 @@ load_into s (refusal k c) = record { record? = None; reply = refusal k c; store 
 unfoldable pub load_of : Store → List ℕ → Loading
 load_of s bytes = load_into s (on_tree s (λ L t. refuse (not (holds_no_frame t)) 19 nothing (formed (records bytes) additions)))
 
--- ---- what the code's enum says
+-- ---- what the code's result says
 
 -- the number of the record whose refusal it is, if it is a record's
-abbrev pub record_of : Loaded → Option ℕ
-record_of (loaded.Record n a) = Some n
-record_of loaded.Done = None
-record_of loaded.Sizes = None
-record_of loaded.UnsoundStore = None
-record_of loaded.StoreInUse = None
-record_of loaded.MapForm = None
+abbrev pub record_of : Result (Unit {0}) LoadError → Option ℕ
+record_of (Ok u) = None
+record_of (Err (error.Store e)) = None
+record_of (Err error.StoreInUse) = None
+record_of (Err error.MapForm) = None
+record_of (Err (error.Record n e)) = Some n
 
 -- the reply
-abbrev pub load_reply : Loaded → Reply Value
-load_reply loaded.Done = answer done
-load_reply loaded.Sizes = refusal 1 nothing
-load_reply loaded.UnsoundStore = refusal 2 nothing
-load_reply loaded.StoreInUse = refusal 19 nothing
-load_reply loaded.MapForm = refusal 18 nothing
-load_reply (loaded.Record n a) = reply_of a
+abbrev pub load_reply : Result (Unit {0}) LoadError → Reply Value
+load_reply r = reply_by refusal_of r then λ u. answer done
 
--- both, and the words that are lent
-abbrev pub loading : Loaded → List ℕ → List ℕ → List Float → Loading
-loading r h i p = record { record? = record_of r; reply = load_reply r; store = store_of h i p }
+-- both, and every word afterwards
+abbrev pub loading : Result (Unit {0}) LoadError → StoreMut → Loading
+loading r s = record { record? = record_of r; reply = load_reply r; store = words_mut s }

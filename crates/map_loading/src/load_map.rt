@@ -1,39 +1,32 @@
 // Loading a map.
 ghost use Rattle.std.specs.Prelude.{◌≡◌};
-ghost use Rattle.registry.specs.Sound.{SoundStore};
-ghost use Rattle.registry.specs.Calls.{store_of};
+ghost use Rattle.registry.specs.Calls.{words_mut, SameSlices};
 ghost use Rattle.map_loading.specs.Loading.{loading, load_of};
 
-use crate::answer::Loaded;
+use crate::error::LoadError;
 use crate::records;
-use map_file::form;
-use map_file::form::Form;
-use registry::check::Checked;
-use registry::{check, checked};
+use map_file::file::MapFile;
+use registry::checked::CheckedMut;
+use registry::store::StoreMut;
 
 // Of a store that has passed the tests of 1 and 2: 19, 18, then the records.
-fn load_sound(head: &mut [u64], instants: &mut [u64], poses: &mut [f64], map: &[u8]) -> Loaded
-    requires { SoundStore (store_of head.old instants.old poses.old) }
-    ensures { loading result head.new instants.new poses.new
-        ≡ load_of (store_of head.old instants.old poses.old) map.now }
+fn load_checked(store: &mut CheckedMut<'_, '_>, map: &[u8]) -> Result<(), LoadError>
+    ensures same { store.new.store.ghost_name ≡ store.old.store.ghost_name }
+    ensures slices { SameSlices store.old.store.now store.new.store.now }
+    ensures outcome { loading result store.new.store.now ≡ load_of (words_mut store.old.store.now) map.now }
 {
-    if !checked::is_empty(head, instants, poses) {
-        return Loaded::StoreInUse;
+    if !store.as_ref().is_empty() {
+        return Err(LoadError::StoreInUse);
     }
-    let Form::Records(count) = form::records(map) else {
-        return Loaded::MapForm;
-    };
-    records::load_records(head, instants, poses, map, count)
+    let file = MapFile::parse(map)?;
+    records::add_records(store, file)
 }
 
 // Adds each record of the file as a static frame to a store that holds none, or says why not and leaves every word.
-pub fn load_map(head: &mut [u64], instants: &mut [u64], poses: &mut [f64], map: &[u8]) -> Loaded
-    ensures { loading result head.new instants.new poses.new
-        ≡ load_of (store_of head.old instants.old poses.old) map.now }
+pub fn load_map(store: &mut StoreMut<'_>, map: &[u8]) -> Result<(), LoadError>
+    ensures same { SameSlices store.old store.new }
+    ensures outcome { loading result store.new ≡ load_of (words_mut store.old) map.now }
 {
-    match check::check(head, instants, poses) {
-        Checked::Sizes => Loaded::Sizes,
-        Checked::UnsoundStore => Loaded::UnsoundStore,
-        Checked::Sound => load_sound(head, instants, poses, map),
-    }
+    store.as_ref().check()?;
+    load_checked(&mut CheckedMut { store }, map)
 }

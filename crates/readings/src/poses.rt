@@ -33,8 +33,12 @@ pub(crate) const TAKEN: u64 = 0x3ff0_0001_0c6f_7a0b;
 pub(crate) const REFUSED: u64 = 0x3ff0_0001_0c6f_7a0c;
 
 fn sqrt(rt: &impl Print, x: f64, expected: &[u8]) -> io::Result<()> {
-    report::asked_float(rt, b"root of", x)?;
-    report::float(rt, expected, libm::sqrt(x))
+    report::asked_float(rt, "root of", x)?;
+    report::compare_written(
+        rt,
+        expected,
+        |out| answers::write_float_answer(out, libm::sqrt(x)),
+    )
 }
 
 pub(crate) fn roots(rt: &impl Print) -> io::Result<()> {
@@ -47,7 +51,8 @@ pub(crate) fn roots(rt: &impl Print) -> io::Result<()> {
 fn validate(rt: &impl Print, p: Isometry, expected: &[u8]) -> io::Result<()> {
     report::put(rt, b"validate")?;
     report::asked_pose(rt, p)?;
-    report::of_pose(rt, expected, geometry::transform::validate(p))
+    let result = geometry::transform::validate(p);
+    report::compare_written(rt, expected, |out| answers::write_posed(out, result))
 }
 
 pub(crate) fn tolerance(rt: &impl Print) -> io::Result<()> {
@@ -64,9 +69,10 @@ pub(crate) fn interpolation(rt: &impl Print) -> io::Result<()> {
         rt,
         b"x 0 at 0 and 4 at 4000000000, interpolated at 1000000000",
     )?;
-    report::of_pose(
+    let result = moved(0.0, 0.0).interpolate(moved(4.0, 0.0), 0, 4000000000, 1000000000);
+    report::compare_written(
         rt,
         b"pose 3ff0000000000000 0000000000000000 0000000000000000 3ff0000000000000 0000000000000000 0000000000000000 0000000000000000",
-        moved(0.0, 0.0).interpolate(moved(4.0, 0.0), 0, 4000000000, 1000000000),
+        |out| answers::write_posed(out, result),
     )
 }

@@ -1,194 +1,136 @@
 // The readings of stores. Frames a, b and c are 1, 2 and 3.
 use super::poses::{REFUSED, TAKEN};
-use super::store;
+use super::store::Bench;
+use registry::store::StoreMut;
 use std::io;
 
-fn tolerance_in(rt: &impl Print, h: &mut [u64], i: &mut [u64], p: &mut [f64]) -> io::Result<()> {
-    store::open(rt, h, i, p, 1, 1)?;
-    store::rotated(rt, h, i, p, TAKEN, b"done")?;
-    store::rotated(rt, h, i, p, REFUSED, b"no 4 3ff000010c6f7a0c")
-}
-
 pub(crate) fn tolerance(rt: &impl Print) -> io::Result<()> {
-    let mut head = [0u64; 9];
-    let mut instants = [0u64; 1];
-    let mut poses = [0.0f64; 7];
-    tolerance_in(rt, &mut head, &mut instants, &mut poses)
+    let mut bench = Bench {
+        rt,
+        store: StoreMut {
+            head: &mut [0; 9],
+            instants: &mut [0; 1],
+            poses: &mut [0.0; 7],
+        },
+    };
+    bench.open(1, 1)?;
+    bench.rotated(TAKEN, b"done")?;
+    bench.rotated(REFUSED, b"no 4 3ff000010c6f7a0c")
 }
 
 // Two samples of frame 2, with an age of 5.
-fn aged(
-    rt: &impl Print,
-    h: &mut [u64],
-    i: &mut [u64],
-    p: &mut [f64],
-    second: u64,
-    x: f64,
-) -> io::Result<()> {
-    store::open_aged(rt, h, i, p, 1, 2, 5)?;
-    store::sample(rt, h, i, p, 2, 10, 10.0)?;
-    store::sample(rt, h, i, p, 2, second, x)
-}
-
-// Instant 10 of them.
-fn newest(rt: &impl Print, h: &[u64], i: &[u64], p: &[f64]) -> io::Result<()> {
-    store::lookup(
-        rt,
-        h,
-        i,
-        p,
+fn aged<R: Print>(bench: &mut Bench<'_, '_, R>, second: u64, x: f64) -> io::Result<()> {
+    bench.open_aged(1, 2, 5)?;
+    bench.sample(2, 10, 10.0)?;
+    bench.sample(2, second, x)?;
+    // Instant 10 of them.
+    bench.lookup(
         2,
         10,
         b"pose 4024000000000000 0000000000000000 0000000000000000 3ff0000000000000 0000000000000000 0000000000000000 0000000000000000",
     )
 }
 
-// 10 then 5 hold both.
-fn both_held(rt: &impl Print, h: &[u64], i: &[u64], p: &[f64]) -> io::Result<()> {
-    newest(rt, h, i, p)?;
-    store::lookup(
+pub(crate) fn ages(rt: &impl Print) -> io::Result<()> {
+    let mut bench = Bench {
         rt,
-        h,
-        i,
-        p,
+        store: StoreMut {
+            head: &mut [0; 9],
+            instants: &mut [0; 2],
+            poses: &mut [0.0; 14],
+        },
+    };
+    // 10 then 5 hold both.
+    aged(&mut bench, 5, 5.0)?;
+    bench.lookup(
         2,
         5,
         b"pose 4014000000000000 0000000000000000 0000000000000000 3ff0000000000000 0000000000000000 0000000000000000 0000000000000000",
     )?;
-    store::lookup(rt, h, i, p, 2, 4, b"no 11 2 5 10")
-}
-
-// 10 then 4 hold only 10.
-fn newest_held(rt: &impl Print, h: &[u64], i: &[u64], p: &[f64]) -> io::Result<()> {
-    newest(rt, h, i, p)?;
-    store::lookup(rt, h, i, p, 2, 4, b"no 11 2 10 10")
-}
-
-pub(crate) fn ages(rt: &impl Print) -> io::Result<()> {
-    let mut head = [0u64; 9];
-    let mut instants = [0u64; 2];
-    let mut poses = [0.0f64; 14];
-    aged(rt, &mut head, &mut instants, &mut poses, 5, 5.0)?;
-    both_held(rt, &head, &instants, &poses)?;
-    aged(rt, &mut head, &mut instants, &mut poses, 4, 4.0)?;
-    newest_held(rt, &head, &instants, &poses)
+    bench.lookup(2, 4, b"no 11 2 5 10")?;
+    // 10 then 4 hold only 10.
+    aged(&mut bench, 4, 4.0)?;
+    bench.lookup(2, 4, b"no 11 2 10 10")
 }
 
 // Translation x 0 at instant 0 and 4 at 4000000000.
-fn interpolated(rt: &impl Print, h: &mut [u64], i: &mut [u64], p: &mut [f64]) -> io::Result<()> {
-    store::open(rt, h, i, p, 1, 2)?;
-    store::sample(rt, h, i, p, 2, 0, 0.0)?;
-    store::sample(rt, h, i, p, 2, 4000000000, 4.0)
-}
-
-fn queries(rt: &impl Print, h: &[u64], i: &[u64], p: &[f64]) -> io::Result<()> {
-    store::lookup(
+pub(crate) fn interpolation(rt: &impl Print) -> io::Result<()> {
+    let mut bench = Bench {
         rt,
-        h,
-        i,
-        p,
+        store: StoreMut {
+            head: &mut [0; 9],
+            instants: &mut [0; 2],
+            poses: &mut [0.0; 14],
+        },
+    };
+    bench.open(1, 2)?;
+    bench.sample(2, 0, 0.0)?;
+    bench.sample(2, 4000000000, 4.0)?;
+    bench.lookup(
         2,
         1000000000,
         b"pose 3ff0000000000000 0000000000000000 0000000000000000 3ff0000000000000 0000000000000000 0000000000000000 0000000000000000",
     )?;
-    store::lookup(rt, h, i, p, 2, 4000000001, b"no 11 2 0 4000000000")
-}
-
-pub(crate) fn interpolation(rt: &impl Print) -> io::Result<()> {
-    let mut head = [0u64; 9];
-    let mut instants = [0u64; 2];
-    let mut poses = [0.0f64; 14];
-    interpolated(rt, &mut head, &mut instants, &mut poses)?;
-    queries(rt, &head, &instants, &poses)
-}
-
-// The first and the last sample of a frame.
-fn range(
-    rt: &impl Print,
-    h: &mut [u64],
-    i: &mut [u64],
-    p: &mut [f64],
-    child: u32,
-    start: u64,
-    end: u64,
-) -> io::Result<()> {
-    store::sample(rt, h, i, p, child, start, 0.0)?;
-    store::sample(rt, h, i, p, child, end, 0.0)
+    bench.lookup(2, 4000000001, b"no 11 2 0 4000000000")
 }
 
 // Frame 2 from 10 to `end`, frame 3 from 20 to 30.
-fn ranges(
-    rt: &impl Print,
-    h: &mut [u64],
-    i: &mut [u64],
-    p: &mut [f64],
-    end: u64,
-) -> io::Result<()> {
-    store::open(rt, h, i, p, 2, 2)?;
-    range(rt, h, i, p, 2, 10, end)?;
-    range(rt, h, i, p, 3, 20, 30)
-}
-
-fn meeting(rt: &impl Print, h: &[u64], i: &[u64], p: &[f64]) -> io::Result<()> {
-    store::common(rt, h, i, p, 2, 3, b"at 20")
-}
-
-fn apart(rt: &impl Print, h: &[u64], i: &[u64], p: &[f64]) -> io::Result<()> {
-    store::common(rt, h, i, p, 2, 3, b"no 12 3 20 30")?;
-    store::common(rt, h, i, p, 3, 2, b"no 12 3 20 30")
+fn ranges<R: Print>(bench: &mut Bench<'_, '_, R>, end: u64) -> io::Result<()> {
+    bench.open(2, 2)?;
+    bench.sample(2, 10, 0.0)?;
+    bench.sample(2, end, 0.0)?;
+    bench.sample(3, 20, 0.0)?;
+    bench.sample(3, 30, 0.0)
 }
 
 pub(crate) fn common_times(rt: &impl Print) -> io::Result<()> {
-    let mut head = [0u64; 13];
-    let mut instants = [0u64; 4];
-    let mut poses = [0.0f64; 28];
-    ranges(rt, &mut head, &mut instants, &mut poses, 20)?;
-    meeting(rt, &head, &instants, &poses)?;
-    ranges(rt, &mut head, &mut instants, &mut poses, 19)?;
-    apart(rt, &head, &instants, &poses)
-}
-
-// Frame 1 under 2, which is under 1, with a NaN.
-fn circle(rt: &impl Print, h: &mut [u64], i: &mut [u64], p: &mut [f64]) -> io::Result<()> {
-    store::open(rt, h, i, p, 4, 1)?;
-    store::translated(rt, h, i, p, 2, 1, 0.0, 0.0)?;
-    store::refused(rt, h, i, p, 1, 2, 0.0 / 0.0, b"no 7")
-}
-
-fn own_parent(rt: &impl Print, h: &mut [u64], i: &mut [u64], p: &mut [f64]) -> io::Result<()> {
-    store::refused(rt, h, i, p, 3, 3, 0.0, b"no 5")
+    let mut bench = Bench {
+        rt,
+        store: StoreMut {
+            head: &mut [0; 13],
+            instants: &mut [0; 4],
+            poses: &mut [0.0; 28],
+        },
+    };
+    ranges(&mut bench, 20)?;
+    bench.common(2, 3, b"at 20")?;
+    ranges(&mut bench, 19)?;
+    bench.common(2, 3, b"no 12 3 20 30")?;
+    bench.common(3, 2, b"no 12 3 20 30")
 }
 
 pub(crate) fn refusals(rt: &impl Print) -> io::Result<()> {
-    let mut head = [0u64; 21];
-    let mut instants = [0u64; 4];
-    let mut poses = [0.0f64; 28];
-    circle(rt, &mut head, &mut instants, &mut poses)?;
-    own_parent(rt, &mut head, &mut instants, &mut poses)
-}
-
-fn chained(rt: &impl Print, h: &mut [u64], i: &mut [u64], p: &mut [f64]) -> io::Result<()> {
-    store::open(rt, h, i, p, 2, 1)?;
-    store::translated(rt, h, i, p, 2, 1, 1.0, 0.0)?;
-    store::translated(rt, h, i, p, 3, 2, 0.0, 2.0)
-}
-
-fn seen(rt: &impl Print, h: &[u64], i: &[u64], p: &[f64]) -> io::Result<()> {
-    store::lookup(
+    let mut bench = Bench {
         rt,
-        h,
-        i,
-        p,
+        store: StoreMut {
+            head: &mut [0; 21],
+            instants: &mut [0; 4],
+            poses: &mut [0.0; 28],
+        },
+    };
+    // Frame 1 under 2, which is under 1, with a NaN.
+    bench.open(4, 1)?;
+    bench.translated(2, 1, 0.0, 0.0)?;
+    bench.refused(1, 2, 0.0 / 0.0, b"no 7")?;
+    // A frame under itself.
+    bench.refused(3, 3, 0.0, b"no 5")
+}
+
+pub(crate) fn chain(rt: &impl Print) -> io::Result<()> {
+    let mut bench = Bench {
+        rt,
+        store: StoreMut {
+            head: &mut [0; 13],
+            instants: &mut [0; 2],
+            poses: &mut [0.0; 14],
+        },
+    };
+    bench.open(2, 1)?;
+    bench.translated(2, 1, 1.0, 0.0)?;
+    bench.translated(3, 2, 0.0, 2.0)?;
+    bench.lookup(
         3,
         0,
         b"pose 3ff0000000000000 4000000000000000 0000000000000000 3ff0000000000000 0000000000000000 0000000000000000 0000000000000000",
     )
-}
-
-pub(crate) fn chain(rt: &impl Print) -> io::Result<()> {
-    let mut head = [0u64; 13];
-    let mut instants = [0u64; 2];
-    let mut poses = [0.0f64; 14];
-    chained(rt, &mut head, &mut instants, &mut poses)?;
-    seen(rt, &head, &instants, &poses)
 }

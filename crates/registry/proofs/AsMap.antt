@@ -19,7 +19,8 @@ use Rattle.buffer.proofs.Cases.{both, none_some, Tri, less, same, more, tri}
 use Rattle.buffer.proofs.Maps.{Rising, rising_is, get_put_same, get_put_other}
 use Rattle.buffer.proofs.Alls.{all_get}
 use Rattle.buffer.proofs.SampleLaws.{newest_top, newest_held, get_insert_lem, insert_empty, insert_single}
-use Rattle.registry.specs.Tree.{Edge, Tree, Limits, Addition, kind_of, instant_of, updated_edge, wiped, wipe}
+use Rattle.buffer.specs.Kind.{kind_of}
+use Rattle.registry.specs.Tree.{Edge, Tree, Limits, Addition, instant_of, updated_edge, wiped, wipe}
 use Rattle.registry.specs.Laws.{SoundTree}
 use Rattle.registry.specs.AsMap.{SameMap, pose_at, view_of, put_in, moving, remove_poses, Newest, older, AddAsMap, WipeAsMap, WipeRefused}
 use Rattle.registry.specs.Sound.{sound}

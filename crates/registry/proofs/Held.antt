@@ -23,9 +23,9 @@ use Rattle.registry.proofs.layout.SoundIsStored.{sound_is_stored}
 use Rattle.registry.proofs.layout.StoredInjective.{stored_reads_back}
 use Rattle.registry.proofs.layout.StoredIsSound.{stored_is_sound}
 use Rattle.registry.proofs.soundness.Rules.{sound_is}
-use Rattle.registry.proofs.paths.SoundWalks.{sound_walkable}
--- the tests of 1 and 2 passed, and what they find before a call on the tree
-pub use Rattle.registry.proofs.soundness.Called.{TestsFind, called, found_sound}
+use Rattle.registry.proofs.paths.SoundWalks.{sound_child}
+-- what the tests of 1 and 2 find before a call on the tree, and that the calls which write leave a store sound
+pub use Rattle.registry.proofs.soundness.Called.{TestsFind, called, words_sound, cleared_sound, added_sound, wiped_sound}
 -- what an addition that is answered has passed, and that it keeps a tree sound
 pub use Rattle.registry.proofs.addition.Accepted.{Accepted, add_accepted}
 pub use Rattle.registry.proofs.soundness.AddKeepsSound.{add_keeps_sound}
@@ -65,7 +65,7 @@ module _ (s : Store) (ok : SoundStore s) where
 
   -- a child has 32 bits
   pub child_fits : (f : ℕ) (e : Edge) → get (tree_of s) f ≡ Some e → f < 2 ^ 32
-  child_fits f e q = (sound_walkable s ok).frames s.instants s.poses f e q
+  child_fits f e q = sound_child s ok f e q
 
   -- a parent has 32 bits
   pub parent_fits_lem : (f : ℕ) (e : Edge) → get (tree_of s) f ≡ Some e → e.parent < 2 ^ 32

@@ -1,3 +1,4 @@
+pub mod Errors
 pub mod AsMap
 pub mod Fits
 pub mod Held

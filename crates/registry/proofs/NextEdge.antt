@@ -1,8 +1,9 @@
 -- What is read of a tree from a frame on: the law, and the row of a store that has it.
-use Prim.Native.Nat.{ℕ, zero, suc, ◌≤◌, ◌<◌}
+use Prim.Native.Nat.{ℕ, zero, suc, ◌+◌, ◌≤◌, ◌<◌}
 use mathlib.Core.Path.{◌≡◌, refl, sym, ap, ◌∙◌}
 use mathlib.Core.Bool.{true}
-use Rattle.std.specs.Prelude.{None, Some}
+use Rattle.std.specs.Prelude.{None, Some, map}
+use Rattle.std.proofs.lemmas.List.{at_drop_more, at_drop_all}
 use mathlib.Core.List.{[], ◌∷◌}
 use native.Mathlib.Omega.{arith}
 use lib.ListN.{length, get_or}
@@ -13,7 +14,7 @@ use Rattle.buffer.proofs.Cases.{both, none_some, Tri, less, same, more, tri}
 use Rattle.buffer.proofs.Maps.{Rising, rising_is, rising_keep, get_floor, get_here, get_there, get_keep}
 use Rattle.registry.specs.Tree.{Edge, Tree}
 use Rattle.registry.specs.Store.{Store, used_in, row_at, tree_of}
-use Rattle.registry.specs.NextEdge.{edge_from, ReadsThrough}
+use Rattle.registry.specs.NextEdge.{edge_from, told_edge, told_from, ReadsThrough}
 use Rattle.registry.specs.layout.Rows.{FirstRow}
 use Rattle.registry.proofs.layout.MapRows.{key}
 use Rattle.registry.proofs.layout.StoreBack.{blank}
@@ -82,3 +83,16 @@ module _ (s : Store) (f k : ℕ) (row : FirstRow s.head f k) where
       from_none (tree_of s) f (λ j u.
       let w : j < used_in s = rw (length_tree s) at u in
       rw (tree_key s j w) (row.below j (omega arith)))
+
+-- ---- the edges from row r on
+
+module _ (s : Store) (r : ℕ) where
+  pub told_end : used_in s ≤ r → told_from r (tree_of s) ≡ []
+  unfolding told_from
+  told_end l = at_drop_all (map told_edge) (tree_of s) r (omega (arith, length_tree s))
+
+  pub told_more : r < used_in s → told_from r (tree_of s) ≡ told_edge (row_at s r) ∷ told_from (r + 1) (tree_of s)
+  unfolding told_from
+  told_more l =
+      at_drop_more (map told_edge) (tree_of s) r blank (omega (arith, length_tree s))
+      ∙ ap (λ (x : ℕ × Edge). told_edge x ∷ told_from (r + 1) (tree_of s)) (tree_row s r l)

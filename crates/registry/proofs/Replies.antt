@@ -19,7 +19,8 @@ use Rattle.buffer.specs.declared.kind.Kind.{Kind}
 use Rattle.buffer.specs.declared.kind.Kind.TheVariants.{Static, Dynamic}
 use Rattle.buffer.specs.Map.{get, keep}
 use Rattle.buffer.specs.Samples.{Samples, range, last?, between_samples, served_at, single, served, first?}
-use Rattle.registry.specs.Tree.{Edge, Tree, Limits, Addition, is_absent, ancestors, member, other_parent, current_parent, other_kind, kind_of, updated_edge, add, wiped, wipe}
+use Rattle.buffer.specs.Kind.{kind_of}
+use Rattle.registry.specs.Tree.{Edge, Tree, Limits, Addition, is_absent, ancestors, member, other_parent, current_parent, other_kind, updated_edge, add, wiped, wipe}
 use Rattle.registry.specs.Store.{Store, limits_of, tree_of, sizes_fit, sized}
 use Rattle.registry.specs.Sound.{sound}
 use Rattle.registry.specs.Answers.{Value, pose, static, carries}

@@ -1,11 +1,9 @@
 pub mod Blocks
 pub mod FitBlocks
-pub mod HeadWords
 pub mod HeaderWriting
 pub mod MapRows
 pub mod NewRow
 pub mod RowHolding
-pub mod RowInserting
 pub mod RowLaws
 pub mod RowParts
 pub mod RowPutting

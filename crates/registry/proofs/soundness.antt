@@ -3,6 +3,7 @@ pub mod AllTests
 pub mod Called
 pub mod Checking
 pub mod Doubling
+pub mod EveryRow
 pub mod Everys
 pub mod HeadTests
 pub mod NoCircle

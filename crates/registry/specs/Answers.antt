@@ -1,16 +1,14 @@
--- Document 01's number and values for each case of the answer, what each number carries, and the reply that the code's enum stands for.
+-- Document 01's number and values for each error of the calls, what each number carries, and the reply that a result of a call stands for.
 use Rattle.std.specs.Prelude.{ℕ, Bool, List, [], ◌∷◌}
-use Rattle.std.specs.Prelude.{Option, None, Some}
-use Rattle.time.specs.Reply.{Reply, Carried, answer, refusal, nothing, norm, frame, hop}
+use Rattle.std.specs.Prelude.{Result}
+use Rattle.time.specs.declared.stamp.Stamp.{Stamp}
+use Rattle.time.specs.declared.stamp.Stamp.TheVariants as stamp
+use Rattle.time.specs.Reply.{Reply, Carried, answer, nothing, norm, frame, hop, reply_by, ◌then◌}
 use Rattle.geometry.specs.declared.isometry.Isometry.{Isometry}
-use Rattle.registry.specs.declared.answer.Covered.{Covered}
-use Rattle.registry.specs.declared.answer.Covered.TheVariants as covered
-use Rattle.registry.specs.declared.answer.Answer.{Answer}
-use Rattle.registry.specs.declared.answer.Answer.TheVariants as enum
-use Rattle.registry.specs.declared.answer.Carried.{Carried as CarriedEnum}
-use Rattle.registry.specs.declared.answer.Carried.TheVariants as carried
-use Rattle.registry.specs.declared.answer.Reply.{Reply as ReplyEnum}
-use Rattle.registry.specs.declared.answer.Reply.TheVariants as reply
+use Rattle.registry.specs.declared.error.Carried.{Carried as CarriedEnum}
+use Rattle.registry.specs.declared.error.Carried.TheVariants as carried
+use Rattle.registry.specs.declared.error.RegistryError.{RegistryError}
+use Rattle.registry.specs.declared.error.RegistryError.TheVariants as error
 use Rattle.registry.specs.Tree.{member}
 
 -- what a call answers: done, a pose, Static, or an instant
@@ -20,35 +18,44 @@ pub data Value : Type 0 where
   static : Value
   at : ℕ → Value
 
--- a hop's range, if it holds any sample
-abbrev pub range_of : Covered → Option (ℕ × ℕ)
-range_of (covered.Range start end) = Some (start, end)
-range_of covered.Nothing = None
+-- the number and the data of each error
+abbrev pub refusal_of : RegistryError → ℕ × Carried
+refusal_of error.Sizes = (1, nothing)
+refusal_of error.UnsoundStore = (2, nothing)
+refusal_of error.NonFiniteValues = (3, nothing)
+refusal_of (error.NonUnitRotation n) = (4, norm n)
+refusal_of error.SelfReferentialFrame = (5, nothing)
+refusal_of (error.ReparentingNotSupported f) = (6, frame f)
+refusal_of error.CycleDetected = (7, nothing)
+refusal_of error.StaticDynamicConflict = (8, nothing)
+refusal_of (error.UnknownFrame f) = (9, frame f)
+refusal_of error.Disconnected = (10, nothing)
+refusal_of (error.NotFoundAt child range) = (11, hop child range)
+refusal_of (error.NoCommonTime child range) = (12, hop child range)
+refusal_of error.NonFinite = (13, nothing)
+refusal_of error.ZeroLengthNormalization = (14, nothing)
+refusal_of error.DurationUnderflow = (15, nothing)
+refusal_of error.TreeFull = (16, nothing)
+refusal_of error.RowFull = (17, nothing)
 
--- what a call replies with this answer
-abbrev pub reply_of : Answer → Reply Value
-reply_of enum.Done = answer done
-reply_of (enum.Pose p) = answer (pose p)
-reply_of enum.Static = answer static
-reply_of (enum.At i) = answer (at i)
-reply_of enum.Sizes = refusal 1 nothing
-reply_of enum.UnsoundStore = refusal 2 nothing
-reply_of enum.NonFiniteValues = refusal 3 nothing
-reply_of (enum.NonUnitRotation n) = refusal 4 (norm n)
-reply_of enum.SelfReferentialFrame = refusal 5 nothing
-reply_of (enum.ReparentingNotSupported f) = refusal 6 (frame f)
-reply_of enum.CycleDetected = refusal 7 nothing
-reply_of enum.StaticDynamicConflict = refusal 8 nothing
-reply_of (enum.UnknownFrame f) = refusal 9 (frame f)
-reply_of enum.Disconnected = refusal 10 nothing
-reply_of (enum.NotFoundAt child range) = refusal 11 (hop child (range_of range))
-reply_of (enum.NoCommonTime child range) = refusal 12 (hop child (range_of range))
-reply_of enum.NonFinite = refusal 13 nothing
-reply_of enum.ZeroLengthNormalization = refusal 14 nothing
-reply_of enum.TreeFull = refusal 16 nothing
-reply_of enum.RowFull = refusal 17 nothing
-reply_of enum.MapForm = refusal 18 nothing
-reply_of enum.StoreInUse = refusal 19 nothing
+-- what a call with this result replies, its value told
+abbrev pub replied : {A : Type 0} → (A → Value) → Result A RegistryError → Reply Value
+replied told r = reply_by refusal_of r then λ a. answer (told a)
+
+-- a call that writes is answered done, a common time with Static or with an instant
+abbrev pub told_done : Unit {0} → Value
+told_done u = done
+
+abbrev pub told_time : Stamp → Value
+told_time stamp.Static = static
+told_time (stamp.At i) = at i
+
+-- what the code's enum of carried data says
+abbrev pub carried_by : CarriedEnum → Carried
+carried_by carried.Nothing = nothing
+carried_by (carried.Norm n) = norm n
+carried_by (carried.Frame f) = frame f
+carried_by (carried.Hop child range) = hop child range
 
 -- "A refusal carries the listed data": these numbers nothing, 4 the norm, 6 that parent and 9 the frame, 11 and 12 a hop's child and its range, if any
 abbrev pub with_nothing : List ℕ
@@ -69,18 +76,3 @@ carries k nothing = member k with_nothing
 carries k (norm n) = member k with_norm
 carries k (frame f) = member k with_frame
 carries k (hop f range) = member k with_hop
-
--- what the code's enum of carried data says
-abbrev pub carried_by : CarriedEnum → Carried
-carried_by carried.Nothing = nothing
-carried_by (carried.Norm n) = norm n
-carried_by (carried.Frame f) = frame f
-carried_by (carried.Hop child covered) = hop child (range_of covered)
-
--- what the code's enum of replies says
-abbrev pub replied : ReplyEnum → Reply Value
-replied reply.Done = answer done
-replied (reply.Pose p) = answer (pose p)
-replied reply.Static = answer static
-replied (reply.At t) = answer (at t)
-replied (reply.Refusal k c) = refusal k (carried_by c)

@@ -6,7 +6,8 @@ use Rattle.geometry.specs.declared.isometry.Isometry.{Isometry}
 use Rattle.buffer.specs.declared.kind.Kind.{Kind}
 use Rattle.buffer.specs.declared.kind.Kind.TheVariants.{Static, Dynamic}
 use Rattle.buffer.specs.Map.{get}
-use Rattle.registry.specs.Tree.{Edge, Tree, Limits, Addition, kind_of, instant_of, add, wipe}
+use Rattle.buffer.specs.Kind.{kind_of}
+use Rattle.registry.specs.Tree.{Edge, Tree, Limits, Addition, instant_of, add, wipe}
 use Rattle.registry.specs.Path.{lookup, common_time}
 use Rattle.registry.specs.Laws.{SoundTree}
 use Rattle.registry.specs.PathLaws.{Rises}

@@ -10,7 +10,8 @@ use Rattle.buffer.specs.declared.kind.Kind.{Kind}
 use Rattle.buffer.specs.declared.kind.Kind.TheVariants.{Static, Dynamic}
 use Rattle.buffer.specs.Row.{floats}
 use Rattle.buffer.specs.Samples.{last?, first?}
-use Rattle.registry.specs.Tree.{Addition, kind_of, instant_of}
+use Rattle.buffer.specs.Kind.{kind_of}
+use Rattle.registry.specs.Tree.{Addition, instant_of}
 use Rattle.registry.specs.Store.{Store}
 use Rattle.registry.specs.Answers.{Value}
 use Rattle.registry.specs.Calls.{Outcome}

@@ -1,14 +1,17 @@
 -- What holds of sound stores and of their trees. Proved in proofs/ under the same names.
 use Rattle.std.specs.Prelude.{ℕ, ◌^◌, ◌≤◌, ◌<◌, ◌≡◌, ◌↔◌, Bool, true, not, length}
+use Rattle.std.specs.Prelude.{Result}
 use Rattle.std.specs.Float.Ieee.{is_nan}
+use Rattle.time.specs.declared.stamp.Stamp.{Stamp}
 use Rattle.time.specs.Reply.{Carried, answer, refusal}
+use Rattle.geometry.specs.declared.isometry.Isometry.{Isometry}
 use Rattle.buffer.specs.Map.{all, rising}
 use Rattle.buffer.specs.Row.{instants_sound, poses_sound, FloatsFit}
 use Rattle.registry.specs.Tree.{Tree, Limits, Addition, add, wipe}
 use Rattle.registry.specs.Store.{Store, stored, tree_of, limits_of, used_in, sized}
 use Rattle.registry.specs.Sound.{frames_fit, parents_differ, no_circle, NotAboveItself, sound}
-use Rattle.registry.specs.declared.answer.Answer.{Answer}
-use Rattle.registry.specs.Answers.{done, reply_of}
+use Rattle.registry.specs.declared.error.RegistryError.{RegistryError}
+use Rattle.registry.specs.Answers.{done, pose, refusal_of, replied, told_done, told_time}
 use Rattle.registry.specs.Calls.{open_of, add_of, wipe_of}
 
 -- "no circle", which climbs decide, means that no frame is above itself
@@ -90,6 +93,12 @@ pub record ExactRefusals : Type 0 where
 
 -- ---- answers
 
--- a reply fixes the enum's case and its values
-abbrev pub ReplyInjective : Type 0
-ReplyInjective = (a b : Answer) → reply_of a ≡ reply_of b → a ≡ b
+-- an error's number and what it carries fix its case and its values
+abbrev pub RefusalInjective : Type 0
+RefusalInjective = (a b : RegistryError) → refusal_of a ≡ refusal_of b → a ≡ b
+
+-- a reply fixes the result of the call
+pub record ReplyInjective : Type 0 where
+  pub dones : (a b : Result (Unit {0}) RegistryError) → replied told_done a ≡ replied told_done b → a ≡ b
+  pub poses : (a b : Result Isometry RegistryError) → replied pose a ≡ replied pose b → a ≡ b
+  pub times : (a b : Result Stamp RegistryError) → replied told_time a ≡ replied told_time b → a ≡ b

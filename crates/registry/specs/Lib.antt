@@ -1,9 +1,11 @@
 pub mod Tree
+pub mod Limits
 pub mod Store
 pub mod Sound
 pub mod Answers
 pub mod Path
 pub mod NextEdge
+pub mod Edges
 pub mod Calls
 pub mod History
 pub mod Demand3
@@ -18,5 +20,4 @@ pub mod layout
 pub mod soundness
 pub mod paths
 pub mod addition
-pub mod lookup
 pub mod common_time

@@ -1,20 +1,26 @@
 -- Reading a tree through, edge by edge in the order of its children.
-use Rattle.std.specs.Prelude.{ℕ, ◌≤◌, ◌≡◌, true, leb, length}
+use Rattle.std.specs.Prelude.{ℕ, ◌≤◌, ◌≡◌, true, List, leb, length, map, drop}
 use Rattle.std.specs.Prelude.{Option, None, Some}
 use Rattle.buffer.specs.Map.{get, keep, rising}
 use Rattle.buffer.specs.Samples.{coverage, first?}
-use Rattle.registry.specs.declared.checked.NextEdge.{NextEdge}
-use Rattle.registry.specs.declared.checked.NextEdge.TheVariants as next
+use Rattle.registry.specs.declared.checked.Edge.{Edge as Told}
 use Rattle.registry.specs.Tree.{Edge, Tree}
 
 -- the first child that is f or greater, and its edge
 abbrev pub edge_from : Tree → ℕ → Option (ℕ × Edge)
 edge_from t f = first? (keep (leb f) t)
 
--- what is told of it: the child, its parent, how many samples it holds and when it is served
-abbrev pub told : Option (ℕ × Edge) → NextEdge
-told None = next.End
-told (Some x) = next.Edge x.0 x.1.parent (length x.1.samples) (coverage x.1.kind x.1.samples)
+-- what is told of an edge: the child, its parent, how many samples it holds and when it is served
+abbrev pub told_edge : ℕ × Edge → Told
+told_edge x = record { child = x.0; parent = x.1.parent; count = length x.1.samples; coverage = coverage x.1.kind x.1.samples }
+
+abbrev pub told : Option (ℕ × Edge) → Option Told
+told None = None
+told (Some x) = Some (told_edge x)
+
+-- what is told of the edges from row r on
+unfoldable pub told_from : ℕ → Tree → List Told
+told_from r t = map told_edge (drop r t)
 
 -- ---- law, proved in proofs/ under the same name
 

@@ -11,7 +11,8 @@ use Rattle.buffer.specs.declared.coverage.Coverage.{Coverage}
 use Rattle.buffer.specs.declared.coverage.Coverage.TheVariants.{AllTime, Range, Empty}
 use Rattle.buffer.specs.Map.{all, get}
 use Rattle.buffer.specs.Samples.{range}
-use Rattle.registry.specs.Tree.{Tree, Limits, Addition, is_absent, ancestors, member, kind_of, other_parent, current_parent, other_kind, updated_edge}
+use Rattle.buffer.specs.Kind.{kind_of}
+use Rattle.registry.specs.Tree.{Tree, Limits, Addition, is_absent, ancestors, member, other_parent, current_parent, other_kind, updated_edge}
 use Rattle.registry.specs.Store.{Store, tree_of, limits_of, sizes_fit, sized}
 use Rattle.registry.specs.Sound.{sound}
 use Rattle.registry.specs.Path.{Hop, side, connected, hops, known, fold, joined}

@@ -8,6 +8,7 @@ use Rattle.geometry.specs.declared.isometry.Isometry.{Isometry}
 use Rattle.geometry.specs.Transform.{validate}
 use Rattle.buffer.specs.declared.kind.Kind.{Kind}
 use Rattle.buffer.specs.declared.kind.Kind.TheVariants.{Static, Dynamic}
+use Rattle.buffer.specs.Kind.{kind_of}
 use Rattle.buffer.specs.Map.{Map, get, put}
 use Rattle.buffer.specs.Samples.{Samples, insert, remove_before}
 
@@ -36,10 +37,6 @@ pub record Addition : Type 0 where
 -- the addition with these operands
 abbrev pub addition : ℕ → ℕ → Stamp → Isometry → Addition
 addition child parent stamp pose = record { child = child; parent = parent; stamp = stamp; pose = pose }
-
-abbrev pub kind_of : Stamp → Kind
-kind_of stamp.Static = Static
-kind_of (stamp.At i) = Dynamic
 
 abbrev pub instant_of : Stamp → ℕ
 instant_of stamp.Static = 0

@@ -1,191 +1,197 @@
-// The calls on a store that is known to have passed the tests of 1 and 2, or, for an opening, on slices
-// that are known to fit. A caller of several tests once; no answer here is 1 or 2.
-ghost use Rattle.std.specs.Prelude.{◌≡◌, true, []};
-ghost use Rattle.time.specs.Reply.{answer};
-ghost use Rattle.buffer.specs.Answers.{age_of};
+// A store that is known to have passed the tests of 1 and 2, and the calls on it. A caller of several tests
+// once; no error here is 1 or 2.
+ghost use Rattle.std.specs.Prelude.{◌≡◌, ◌<◌, true, []};
+ghost use Rattle.buffer.specs.Row.{FloatsFit};
+ghost use Rattle.registry.specs.Limits.{limits_by};
 ghost use Rattle.registry.specs.Tree.{addition, holds_no_frame, add, wipe};
-ghost use Rattle.registry.specs.Store.{sizes_fit, limits_of, tree_of, stored};
+ghost use Rattle.registry.specs.Store.{sizes_fit, used_in, row_at, limits_of, tree_of, stored};
 ghost use Rattle.registry.specs.Sound.{SoundStore};
-ghost use Rattle.registry.specs.Answers.{reply_of};
-ghost use Rattle.registry.specs.Calls.{outcome, store_of, written};
+ghost use Rattle.registry.specs.Answers.{replied, pose, told_time};
+ghost use Rattle.registry.specs.Calls.{outcome_of, written, words, words_mut, SameSlices};
 ghost use Rattle.registry.specs.Path.{climb_end, lookup, common_time};
-ghost use Rattle.registry.specs.NextEdge.{edge_from, told};
+ghost use Rattle.registry.specs.NextEdge.{edge_from, told, told_edge};
 
-use crate::addition::put;
-use crate::answer::Answer;
-use crate::common_time::common;
-use crate::lookup::resolve;
+use crate::addition::Addition;
+use crate::error::RegistryError;
+use crate::layout;
+use crate::limits::Limits;
 pub use crate::paths::climbs::ClimbEnds;
-use crate::paths::frames::Endpoints;
-use crate::paths::{climbs, edges, frames};
-use crate::search::Found;
-use crate::{layout, search};
+use crate::rows::Rows;
+use crate::store::{Store, StoreMut};
 use buffer::coverage::Coverage;
-use buffer::max_age::MaxAge;
 use buffer::words;
 use geometry::isometry::Isometry;
 use time::stamp::Stamp;
 
-// Overwrites everything with a store of these sizes and this age, with no row used.
-pub fn open(
-    head: &mut [u64],
-    instants: &mut [u64],
-    poses: &mut [f64],
-    rows: u64,
-    samples: u64,
-    max_age: MaxAge,
-) -> Answer
-    requires { sizes_fit rows samples (store_of head.old instants.old poses.old) ≡ true }
-    ensures { outcome (reply_of result) head.new instants.new poses.new
-        ≡ written (store_of head.old instants.old poses.old) (record { rows = rows; capacity = samples; age = age_of max_age }) (answer []) }
-{
-    layout::write_head(head, rows, samples, max_age);
-    words::clear_words(instants);
-    words::clear_floats(poses);
-    Answer::Done
+// A store that has passed the tests of its sizes and of its words.
+#[derive(Clone, Copy)]
+pub struct Checked<'a> {
+    pub store: Store<'a>,
+    ghost sound: { SoundStore (words store) },
 }
 
-// Whether the store holds no frame.
-pub fn is_empty(head: &[u64], instants: &[u64], poses: &[f64]) -> bool
-    requires { SoundStore (store_of head.now instants.now poses.now) }
-    ensures { result ≡ holds_no_frame (tree_of (store_of head.now instants.now poses.now)) }
-{
-    layout::used(head) == 0
+// The same to write: a store that is lent on, since the check does not follow slices through a struct within a struct.
+#[derive(Drop)]
+pub struct CheckedMut<'a, 'b> {
+    pub store: &'a mut StoreMut<'b>,
+    ghost sound: { SoundStore (words_mut store.now) },
 }
 
 // An edge of the tree: its child, its parent, how many samples it holds and the times at which it is
-// served. End where no child is left.
-#[derive(Drop)]
-pub enum NextEdge {
-    Edge {
-        child: u64,
-        parent: u64,
-        count: usize,
-        coverage: Coverage,
-    },
-    End,
+// served.
+#[derive(Clone, Copy)]
+pub struct Edge {
+    pub child: u64,
+    pub parent: u64,
+    pub count: usize,
+    pub coverage: Coverage,
 }
 
-// The first edge whose child is the frame or greater. Asked from 0, and then each time from one more
-// than the child read, it gives every edge once, by rising child.
-pub fn edge_from(head: &[u64], instants: &[u64], poses: &[f64], frame: u64) -> NextEdge
-    requires { SoundStore (store_of head.now instants.now poses.now) }
-    ensures { result ≡ told (edge_from (tree_of (store_of head.now instants.now poses.now)) frame) }
-{
-    let row = search::row_from(head, frame);
-    if row == layout::used(head) {
-        return NextEdge::End;
-    }
-    NextEdge::Edge {
-        child: layout::child_at(head, row),
-        parent: layout::parent_at(head, row),
-        count: layout::count_at(head, row) as usize,
-        coverage: edges::row_coverage(head, instants, row),
-    }
-}
-
-// Where the climbs from two frames end: both at the frame where they meet, or each at its root.
-pub fn climb_ends(
-    head: &[u64],
-    instants: &[u64],
-    poses: &[f64],
-    target: u64,
-    source: u64,
-) -> ClimbEnds
-    requires { SoundStore (store_of head.now instants.now poses.now) }
-    ensures { let t = tree_of (store_of head.now instants.now poses.now) in
-        (result.target ≡ climb_end t target source) × (result.source ≡ climb_end t source target) }
-{
-    climbs::climb_ends(head, target, source)
-}
-
-// Leaves a store of the same sizes and age with no row used.
-pub fn clear(head: &mut [u64], instants: &mut [u64], poses: &mut [f64])
-    requires { SoundStore (store_of head.old instants.old poses.old) }
-    ensures { store_of head.new instants.new poses.new ≡ stored (limits_of (store_of head.old instants.old poses.old)) [] }
-{
-    let rows = layout::rows(head);
-    let samples = layout::capacity(head);
-    let max_age = layout::max_age(head);
-    open(head, instants, poses, rows, samples, max_age);
-}
-
-// Puts a pose into the tree, or says why not and leaves every word.
-pub fn add_transform(
-    head: &mut [u64],
-    instants: &mut [u64],
-    poses: &mut [f64],
-    child: u32,
-    parent: u32,
-    stamp: Stamp,
-    pose: Isometry,
-) -> Answer
-    requires { SoundStore (store_of head.old instants.old poses.old) }
-    ensures { outcome (reply_of result) head.new instants.new poses.new
-        ≡ (let s = store_of head.old instants.old poses.old in written s (limits_of s) (add (limits_of s) (tree_of s) (addition child parent stamp pose))) }
-{
-    match search::find_row(head, child as u64) {
-        Found::At(r) => put::add_held(head, instants, poses, r, child, parent, stamp, pose),
-        Found::Absent(k) => put::add_new(head, instants, poses, k, child, parent, stamp, pose),
-    }
-}
-
-// The source's pose seen from the target, at an instant.
-pub fn get_transform(
-    head: &[u64],
-    instants: &[u64],
-    poses: &[f64],
-    target: u32,
-    source: u32,
-    t: u64,
-) -> Answer
-    requires { SoundStore (store_of head.now instants.now poses.now) }
-    ensures { reply_of result ≡ lookup (tree_of (store_of head.now instants.now poses.now)) target source t }
-{
-    match frames::find_frames(head, target, source) {
-        Endpoints::Same => Answer::Pose(Isometry::identity()),
-        Endpoints::Unknown(frame) => Answer::UnknownFrame(frame),
-        Endpoints::Known => {
-            resolve::resolve_known(head, instants, poses, target as u64, source as u64, t)
+impl Checked<'_> {
+    // The rows of its head.
+    pub(crate) fn rows(&self) -> Rows<'_>
+        ensures { result.head.now ≡ self.now.store.head.now }
+    {
+        Rows {
+            head: self.store.head,
         }
     }
-}
 
-// The latest instant that every hop between the frames serves.
-pub fn latest_common_time(
-    head: &[u64],
-    instants: &[u64],
-    poses: &[f64],
-    target: u32,
-    source: u32,
-) -> Answer
-    requires { SoundStore (store_of head.now instants.now poses.now) }
-    ensures { reply_of result ≡ common_time (tree_of (store_of head.now instants.now poses.now)) target source }
-{
-    match frames::find_frames(head, target, source) {
-        Endpoints::Same => Answer::Static,
-        Endpoints::Unknown(frame) => Answer::UnknownFrame(frame),
-        Endpoints::Known => {
-            common::common_time_known(head, instants, target as u64, source as u64)
+    // Whether the store holds no frame.
+    pub fn is_empty(&self) -> bool
+        ensures { result ≡ holds_no_frame (tree_of (words self.now.store)) }
+    {
+        self.rows().used() == 0
+    }
+
+    // The edge that row r holds.
+    pub(crate) fn edge_at(&self, r: usize) -> Edge
+        requires { r < used_in (words self.now.store) }
+        ensures { result ≡ told_edge (row_at (words self.now.store) r) }
+    {
+        let rows = self.rows();
+        Edge {
+            child: rows.child(r),
+            parent: rows.parent(r),
+            count: rows.count(r),
+            coverage: self.row_coverage(r),
         }
+    }
+
+    // The first edge whose child is the frame or greater. Asked from 0, and then each time from one more
+    // than the child read, it gives every edge once, by rising child.
+    pub fn edge_from(&self, frame: u64) -> Option<Edge>
+        ensures { result ≡ told (edge_from (tree_of (words self.now.store)) frame) }
+    {
+        let rows = self.rows();
+        let row = rows.row_from(frame);
+        if row == rows.used() {
+            return None;
+        }
+        Some(self.edge_at(row))
+    }
+
+    // Where the climbs from two frames end: both at the frame where they meet, or each at its root.
+    pub fn climb_ends(&self, target: u64, source: u64) -> ClimbEnds
+        ensures { let t = tree_of (words self.now.store) in
+            (result.target ≡ climb_end t target source) × (result.source ≡ climb_end t source target) }
+    {
+        self.rows().climb_ends(target, source)
+    }
+
+    // The source's pose seen from the target, at an instant.
+    pub fn get_transform(&self, target: u32, source: u32, t: u64) -> Result<Isometry, RegistryError>
+        ensures { replied pose result ≡ lookup (tree_of (words self.now.store)) target source t }
+    {
+        self.rows().find_frames(target, source)?;
+        if target == source {
+            return Ok(Isometry::identity());
+        }
+        self.resolve_known(u64::from(target), u64::from(source), t)
+    }
+
+    // The latest instant that every hop between the frames serves.
+    pub fn latest_common_time(&self, target: u32, source: u32) -> Result<Stamp, RegistryError>
+        ensures { replied told_time result ≡ common_time (tree_of (words self.now.store)) target source }
+    {
+        self.rows().find_frames(target, source)?;
+        if target == source {
+            return Ok(Stamp::Static);
+        }
+        self.common_time_known(u64::from(target), u64::from(source))
     }
 }
 
-// Drops a moving child's poses before the instant.
-pub fn remove_before(
-    head: &mut [u64],
-    instants: &mut [u64],
-    poses: &mut [f64],
-    child: u32,
-    t: u64,
-) -> Answer
-    requires { SoundStore (store_of head.old instants.old poses.old) }
-    ensures { outcome (reply_of result) head.new instants.new poses.new
-        ≡ (let s = store_of head.old instants.old poses.old in written s (limits_of s) (wipe (tree_of s) child t)) }
-{
-    let Found::At(row) = search::find_row(head, child as u64) else {
-        return Answer::UnknownFrame(child);
-    };
-    layout::wipe_row(head, instants, poses, row, t);
-    Answer::Done
+impl StoreMut<'_> {
+    // To read, where it is known to be sound.
+    pub(crate) fn as_checked(&self) -> Checked<'_>
+        requires { SoundStore (words_mut self.now) }
+        ensures words { words result.store ≡ words_mut self.now }
+        ensures floats { FloatsFit result.store.poses.now }
+    {
+        Checked {
+            store: self.as_ref(),
+        }
+    }
+
+    // Overwrites everything with a store of these limits, with no row used.
+    pub fn overwrite(&mut self, limits: Limits)
+        requires { sizes_fit limits.rows limits.samples (words_mut self.old) ≡ true }
+        ensures same { SameSlices self.old self.new }
+        ensures words { words_mut self.new ≡ stored (limits_by limits) [] }
+    {
+        layout::write_head(self.head, limits);
+        words::clear(self.instants);
+        words::clear(self.poses);
+    }
+}
+
+impl CheckedMut<'_, '_> {
+    pub fn as_ref(&self) -> Checked<'_>
+        ensures words { words result.store ≡ words_mut self.now.store.now }
+        ensures floats { FloatsFit result.store.poses.now }
+    {
+        self.store.as_checked()
+    }
+
+    // Leaves a store of the same sizes and age with no row used.
+    pub fn clear(&mut self)
+        ensures same { self.new.store.ghost_name ≡ self.old.store.ghost_name }
+        ensures slices { SameSlices self.old.store.now self.new.store.now }
+        ensures words { words_mut self.new.store.now ≡ stored (limits_of (words_mut self.old.store.now)) [] }
+    {
+        let limits = self.as_ref().rows().head().limits();
+        self.store.overwrite(limits);
+    }
+
+    // Puts a pose into the tree, or says why not and leaves every word.
+    pub fn add_transform(
+        &mut self,
+        child: u32,
+        parent: u32,
+        stamp: Stamp,
+        pose: Isometry,
+    ) -> Result<(), RegistryError>
+        ensures same { self.new.store.ghost_name ≡ self.old.store.ghost_name }
+        ensures slices { SameSlices self.old.store.now self.new.store.now }
+        ensures outcome { outcome_of result self.new.store.now
+            ≡ (let s = words_mut self.old.store.now in written s (limits_of s) (add (limits_of s) (tree_of s) (addition child parent stamp pose))) }
+    {
+        self.store.add(&Addition {
+            child,
+            parent,
+            stamp,
+            pose,
+        })
+    }
+
+    // Drops a moving child's poses before the instant.
+    pub fn remove_before(&mut self, child: u32, t: u64) -> Result<(), RegistryError>
+        ensures same { self.new.store.ghost_name ≡ self.old.store.ghost_name }
+        ensures slices { SameSlices self.old.store.now self.new.store.now }
+        ensures outcome { outcome_of result self.new.store.now
+            ≡ (let s = words_mut self.old.store.now in written s (limits_of s) (wipe (tree_of s) child t)) }
+    {
+        self.store.wipe(child, t)
+    }
 }

@@ -1,26 +1,17 @@
 // Lookup.
 ghost use Rattle.std.specs.Prelude.{◌≡◌};
-ghost use Rattle.registry.specs.Answers.{reply_of};
-ghost use Rattle.registry.specs.Calls.{store_of, lookup_of};
+ghost use Rattle.registry.specs.Answers.{replied, pose};
+ghost use Rattle.registry.specs.Calls.{words, lookup_of};
 
-use crate::answer::Answer;
-use crate::check::Checked;
-use crate::{check, checked};
+use crate::error::RegistryError;
+use crate::store::Store;
+use geometry::isometry::Isometry;
 
-// The source's pose seen from the target, at an instant.
-pub fn get_transform(
-    head: &[u64],
-    instants: &[u64],
-    poses: &[f64],
-    target: u32,
-    source: u32,
-    t: u64,
-) -> Answer
-    ensures { reply_of result ≡ lookup_of (store_of head.now instants.now poses.now) target source t }
-{
-    match check::check(head, instants, poses) {
-        Checked::Sizes => Answer::Sizes,
-        Checked::UnsoundStore => Answer::UnsoundStore,
-        Checked::Sound => checked::get_transform(head, instants, poses, target, source, t),
+impl Store<'_> {
+    // The source's pose seen from the target, at an instant.
+    pub fn get_transform(&self, target: u32, source: u32, t: u64) -> Result<Isometry, RegistryError>
+        ensures { replied pose result ≡ lookup_of (words self.now) target source t }
+    {
+        self.check()?.get_transform(target, source, t)
     }
 }

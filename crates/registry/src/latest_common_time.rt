@@ -1,25 +1,17 @@
 // Latest common time.
 ghost use Rattle.std.specs.Prelude.{◌≡◌};
-ghost use Rattle.registry.specs.Answers.{reply_of};
-ghost use Rattle.registry.specs.Calls.{store_of, common_time_of};
+ghost use Rattle.registry.specs.Answers.{replied, told_time};
+ghost use Rattle.registry.specs.Calls.{words, common_time_of};
 
-use crate::answer::Answer;
-use crate::check::Checked;
-use crate::{check, checked};
+use crate::error::RegistryError;
+use crate::store::Store;
+use time::stamp::Stamp;
 
-// The latest instant that every hop between the frames serves.
-pub fn latest_common_time(
-    head: &[u64],
-    instants: &[u64],
-    poses: &[f64],
-    target: u32,
-    source: u32,
-) -> Answer
-    ensures { reply_of result ≡ common_time_of (store_of head.now instants.now poses.now) target source }
-{
-    match check::check(head, instants, poses) {
-        Checked::Sizes => Answer::Sizes,
-        Checked::UnsoundStore => Answer::UnsoundStore,
-        Checked::Sound => checked::latest_common_time(head, instants, poses, target, source),
+impl Store<'_> {
+    // The latest instant that every hop between the frames serves.
+    pub fn latest_common_time(&self, target: u32, source: u32) -> Result<Stamp, RegistryError>
+        ensures { replied told_time result ≡ common_time_of (words self.now) target source }
+    {
+        self.check()?.latest_common_time(target, source)
     }
 }

@@ -1,17 +1,25 @@
 // The layout of a store: where the words of the three slices lie. Whatever reads or writes a word of the
 // head, or takes a row's part of the instants or of the poses, does it here.
 ghost use Rattle.std.specs.Prelude.{◌≡◌, ◌+◌, ◌^◌, ◌≤◌, ◌<◌, leb, length, take, drop, replicate};
-ghost use Rattle.buffer.specs.Answers.{age_of};
-ghost use Rattle.registry.specs.Store.{head_length, instants_length, poses_length, row_floats, flag_word, age_word, kind_word, rows_in, capacity_in, used_in, flag_in, age_word_in, age_in, limits_of, row_word, child_in, parent_in, kind_in, count_in, kind_of_word, with_header, with_count, stored};
-ghost use Rattle.registry.specs.Answers.{reply_of};
-ghost use Rattle.registry.specs.Calls.{outcome, store_of, written};
+ghost use Rattle.registry.specs.Limits.{limits_by};
+ghost use Rattle.registry.specs.Store.{head_length, instants_length, poses_length, row_floats, flag_word, age_word, kind_word, rows_in, capacity_in, used_in, flag_in, age_word_in, age_in, limits_of, row_word, child_in, parent_in, kind_in, count_in, kind_of_word, row_instants, row_poses, unused_head, unused_instants, unused_poses, with_header, with_count, stored};
+ghost use Rattle.time.specs.Reply.{answer, reply_by};
+ghost use Rattle.buffer.specs.Row.{Row, outcome, insert_row, remove_before_row};
+ghost use Rattle.buffer.specs.Answers.{insert_refusal_of};
+ghost use Rattle.registry.specs.Calls.{outcome_of, words, words_mut, SameSlices, written};
 ghost use Rattle.registry.specs.layout.Rows.{head_of, HasHeader, HasRow, StoredRow, empty_row, row_inserted, put_into, wiped_in};
 
-use crate::answer::Answer;
-use buffer::insert::Inserted;
+pub(crate) mod head;
+
+use self::head::Head;
+use crate::error::RegistryError;
+use crate::limits::Limits;
+use crate::parts::Parts;
+use crate::store::StoreMut;
+use buffer::buffer::BufferMut;
+use buffer::error::InsertError;
 use buffer::kind::Kind;
-use buffer::max_age::MaxAge;
-use buffer::{insert, remove_before, words};
+use buffer::words;
 use geometry::isometry::Isometry;
 
 // The words of the header.
@@ -74,147 +82,45 @@ pub(crate) fn row_floats(capacity: usize) -> usize
 
 // ---- the words of the header
 
-pub(crate) fn rows(head: &[u64]) -> u64
-    requires { HasHeader head.now }
-    ensures { result ≡ rows_in (head_of head.now) }
-{
-    head[ROWS]
-}
-
-pub(crate) fn capacity(head: &[u64]) -> u64
-    requires { HasHeader head.now }
-    ensures { result ≡ capacity_in (head_of head.now) }
-{
-    head[CAPACITY]
-}
-
-pub(crate) fn used(head: &[u64]) -> usize
-    requires { HasHeader head.now }
-    ensures { result ≡ used_in (head_of head.now) }
-{
-    head[USED] as usize
-}
-
-pub(crate) fn age_flag(head: &[u64]) -> u64
-    requires { HasHeader head.now }
-    ensures { result ≡ flag_in (head_of head.now) }
-{
-    head[AGE_FLAG]
-}
-
-pub(crate) fn age_word(head: &[u64]) -> u64
-    requires { HasHeader head.now }
-    ensures { result ≡ age_word_in (head_of head.now) }
-{
-    head[AGE]
-}
-
-pub(crate) fn max_age(head: &[u64]) -> MaxAge
-    requires { HasHeader head.now }
-    ensures { age_of result ≡ age_in (head_of head.now) }
-{
-    if head[AGE_FLAG] == 0 {
-        return MaxAge::Unlimited;
-    }
-    MaxAge::Nanos(head[AGE])
-}
-
-// Whether the header lies within the head.
-pub(crate) fn has_header(head: &[u64]) -> bool
-    ensures { result ≡ leb (head_length 0) (length head.now) }
-{
-    HEADER_WORDS <= head.len()
-}
-
 // The age flag and the age word of a header.
-fn flag_word(max_age: MaxAge) -> u64
-    ensures { result ≡ flag_word (age_of max_age) }
+fn flag_word(max_age: Option<u64>) -> u64
+    ensures { result ≡ flag_word max_age }
 {
-    match max_age {
-        MaxAge::Unlimited => 0,
-        MaxAge::Nanos(_) => 1,
-    }
+    u64::from(max_age.is_some())
 }
 
-fn nanos_word(max_age: MaxAge) -> u64
-    ensures { result ≡ age_word (age_of max_age) }
+fn nanos_word(max_age: Option<u64>) -> u64
+    ensures { result ≡ age_word max_age }
 {
-    match max_age {
-        MaxAge::Unlimited => 0,
-        MaxAge::Nanos(age) => age,
-    }
+    max_age.unwrap_or(0)
 }
 
-// The header of a store of these sizes and this age with no row used.
-fn write_header(head: &mut [u64], rows: u64, capacity: u64, max_age: MaxAge)
+// The header of a store of these limits with no row used.
+fn write_header(head: &mut [u64], limits: Limits)
     requires { HasHeader head.old }
-    ensures { head.new ≡ with_header (record { rows = rows; capacity = capacity; age = age_of max_age }) 0 head.old }
+    ensures { head.new ≡ with_header (limits_by limits) 0 head.old }
 {
-    let flag = flag_word(max_age);
-    let age = nanos_word(max_age);
-    head[ROWS] = rows;
-    head[CAPACITY] = capacity;
+    let flag = flag_word(limits.max_age);
+    let age = nanos_word(limits.max_age);
+    head[ROWS] = limits.rows;
+    head[CAPACITY] = limits.samples;
     head[USED] = 0;
     head[AGE_FLAG] = flag;
     head[AGE] = age;
 }
 
 // The whole head of such a store.
-pub(crate) fn write_head(head: &mut [u64], rows: u64, capacity: u64, max_age: MaxAge)
+pub(crate) fn write_head(head: &mut [u64], limits: Limits)
     requires { HasHeader head.old }
-    ensures { head.new ≡ with_header (record { rows = rows; capacity = capacity; age = age_of max_age }) 0 (replicate (length head.old) 0) }
+    ensures { head.new ≡ with_header (limits_by limits) 0 (replicate (length head.old) 0) }
 {
-    words::clear_words(head);
-    write_header(head, rows, capacity, max_age);
+    words::clear(head);
+    write_header(head, limits);
 }
 
 // ---- the words of row r
 
-fn row_word(head: &[u64], r: usize, j: usize) -> u64
-    requires { HasRow r head.now × (j < 4) }
-    ensures { result ≡ row_word (head_of head.now) r j }
-{
-    head[head_length(r) + j]
-}
-
-pub(crate) fn child_at(head: &[u64], r: usize) -> u64
-    requires { HasRow r head.now }
-    ensures { result ≡ child_in (head_of head.now) r }
-{
-    row_word(head, r, CHILD)
-}
-
-pub(crate) fn parent_at(head: &[u64], r: usize) -> u64
-    requires { HasRow r head.now }
-    ensures { result ≡ parent_in (head_of head.now) r }
-{
-    row_word(head, r, PARENT)
-}
-
-pub(crate) fn kind_at(head: &[u64], r: usize) -> u64
-    requires { HasRow r head.now }
-    ensures { result ≡ kind_in (head_of head.now) r }
-{
-    row_word(head, r, KIND)
-}
-
-pub(crate) fn count_at(head: &[u64], r: usize) -> u64
-    requires { HasRow r head.now }
-    ensures { result ≡ count_in (head_of head.now) r }
-{
-    row_word(head, r, COUNT)
-}
-
-pub(crate) fn row_kind(head: &[u64], r: usize) -> Kind
-    requires { HasRow r head.now }
-    ensures { result ≡ kind_of_word (kind_in (head_of head.now) r) }
-{
-    if kind_at(head, r) == 0 {
-        return Kind::Static;
-    }
-    Kind::Dynamic
-}
-
+// The word of a kind. Kind and u64 are types of other crates, so this cannot be a From.
 fn kind_word(kind: Kind) -> u64
     ensures { result ≡ kind_word kind }
 {
@@ -225,64 +131,63 @@ fn kind_word(kind: Kind) -> u64
 }
 
 // Puts a row that holds no sample in at k, before the others of the rows used.
+#[tactic(auto, unfolding(crate::specs::layout::Rows::row_inserted))]
 pub(crate) fn insert_row(head: &mut [u64], k: usize, child: u64, parent: u64, kind: Kind)
     requires { (k ≤ used_in (head_of head.old)) × HasRow (used_in (head_of head.old)) head.old }
     ensures { head.new ≡ row_inserted k (empty_row child parent kind) head.old }
 {
-    let used = used(head);
-    let kind = kind_word(kind);
-    let at = head_length(k);
-    let end = head_length(used);
-    words::move_up_words(head, at, end, ROW_WORDS);
-    head[at + CHILD] = child;
-    head[at + PARENT] = parent;
-    head[at + KIND] = kind;
-    head[at + COUNT] = 0;
+    let used = Head { words: head }.used();
+    let row = [child, parent, kind_word(kind), 0];
+    words::insert(head, head_length(k), head_length(used), &row);
     head[USED] = (used + 1) as u64;
 }
 
-// ---- row r's part of the instants and of the poses
+// ---- the parts of the slices
 
-pub(crate) fn row_instants(instants: &[u64], capacity: usize, r: usize) -> &[u64]
-    requires { instants_length r capacity + capacity ≤ length instants.now }
-    ensures { result.now ≡ take capacity (drop (instants_length r capacity) instants.now) }
-{
-    let start = instants_length(r, capacity);
-    &instants[start..start + capacity]
-}
+impl<'a> Parts<'a> {
+    // Row r's part of the instants.
+    #[tactic(auto, using(crate::proofs::layout::SizeTests::used_part))]
+    pub(crate) fn row_instants(&self, r: usize) -> &'a [u64]
+        requires { r < used_in (words self.now.store) }
+        ensures { result.now ≡ row_instants (words self.now.store) r }
+    {
+        let capacity = self.head().capacity() as usize;
+        let start = instants_length(r, capacity);
+        &self.store.instants[start..start + capacity]
+    }
 
-pub(crate) fn row_poses(poses: &[f64], capacity: usize, r: usize) -> &[f64]
-    requires { poses_length r capacity + row_floats capacity ≤ length poses.now }
-    ensures { result.now ≡ take (row_floats capacity) (drop (poses_length r capacity) poses.now) }
-{
-    let start = poses_length(r, capacity);
-    &poses[start..start + row_floats(capacity)]
-}
+    // Row r's part of the poses.
+    #[tactic(auto, using(crate::proofs::layout::SizeTests::used_part))]
+    pub(crate) fn row_poses(&self, r: usize) -> &'a [f64]
+        requires { r < used_in (words self.now.store) }
+        ensures { result.now ≡ row_poses (words self.now.store) r }
+    {
+        let capacity = self.head().capacity() as usize;
+        let start = poses_length(r, capacity);
+        &self.store.poses[start..start + row_floats(capacity)]
+    }
 
-// ---- what follows the first rows
+    // What follows the used rows.
+    pub(crate) fn unused_head(&self) -> &[u64]
+        ensures { result.now ≡ unused_head (words self.now.store) }
+    {
+        let start = head_length(self.head().used());
+        &self.store.head[start..]
+    }
 
-pub(crate) fn head_after(head: &[u64], rows: usize) -> &[u64]
-    requires { head_length rows ≤ length head.now }
-    ensures { result.now ≡ drop (head_length rows) head.now }
-{
-    let start = head_length(rows);
-    &head[start..]
-}
+    pub(crate) fn unused_instants(&self) -> &[u64]
+        ensures { result.now ≡ unused_instants (words self.now.store) }
+    {
+        let start = instants_length(self.head().used(), self.head().capacity() as usize);
+        &self.store.instants[start..]
+    }
 
-pub(crate) fn instants_after(instants: &[u64], rows: usize, capacity: usize) -> &[u64]
-    requires { instants_length rows capacity ≤ length instants.now }
-    ensures { result.now ≡ drop (instants_length rows capacity) instants.now }
-{
-    let start = instants_length(rows, capacity);
-    &instants[start..]
-}
-
-pub(crate) fn poses_after(poses: &[f64], rows: usize, capacity: usize) -> &[f64]
-    requires { poses_length rows capacity ≤ length poses.now }
-    ensures { result.now ≡ drop (poses_length rows capacity) poses.now }
-{
-    let start = poses_length(rows, capacity);
-    &poses[start..]
+    pub(crate) fn unused_poses(&self) -> &[f64]
+        ensures { result.now ≡ unused_poses (words self.now.store) }
+    {
+        let start = poses_length(self.head().used(), self.head().capacity() as usize);
+        &self.store.poses[start..]
+    }
 }
 
 // ---- a row with other samples
@@ -295,58 +200,109 @@ fn set_count(head: &mut [u64], r: usize, count: usize)
     head[place] = count as u64;
 }
 
-// Puts a sample into row r, or 17.
-pub(crate) fn put_row(
-    head: &mut [u64],
+// A sample put into a row's part of the slices; how many it then holds.
+fn insert_sample(
     instants: &mut [u64],
     poses: &mut [f64],
-    r: usize,
-    instant: u64,
+    kind: Kind,
+    count: usize,
+    max_age: Option<u64>,
+    t: u64,
     pose: Isometry,
-) -> Answer
-    requires { StoredRow r (store_of head.old instants.old poses.old) }
-    ensures { outcome (reply_of result) head.new instants.new poses.new
-        ≡ (let s = store_of head.old instants.old poses.old in written s (limits_of s) (put_into s r instant pose)) }
+) -> Result<usize, InsertError>
+    requires { Row count instants.old poses.old }
+    ensures { outcome (reply_by insert_refusal_of result) instants.new poses.new ≡ insert_row max_age t pose count instants.old poses.old }
 {
-    let width = capacity(head) as usize;
-    let count = count_at(head, r) as usize;
-    let age = max_age(head);
-    let first = instants_length(r, width);
-    let float = poses_length(r, width);
-    let floats = row_floats(width);
-    let inserted = insert::insert(
-        &mut instants[first..first + width],
-        &mut poses[float..float + floats],
-        count,
-        age,
-        instant,
-        pose,
-    );
-    let Inserted::Held(held) = inserted else {
-        return Answer::RowFull;
-    };
-    set_count(head, r, held);
-    Answer::Done
-}
-
-// Removes row r's samples before t, where it moves.
-pub(crate) fn wipe_row(head: &mut [u64], instants: &mut [u64], poses: &mut [f64], r: usize, t: u64)
-    requires { StoredRow r (store_of head.old instants.old poses.old) }
-    ensures { store_of head.new instants.new poses.new
-        ≡ (let s = store_of head.old instants.old poses.old in stored (limits_of s) (wiped_in s r t)) }
-{
-    let width = capacity(head) as usize;
-    let kind = row_kind(head, r);
-    let count = count_at(head, r) as usize;
-    let first = instants_length(r, width);
-    let float = poses_length(r, width);
-    let floats = row_floats(width);
-    let left = remove_before::remove_before(
-        &mut instants[first..first + width],
-        &mut poses[float..float + floats],
+    let mut row = BufferMut {
+        instants,
+        poses,
         kind,
         count,
-        t,
-    );
-    set_count(head, r, left);
+    };
+    row.insert(max_age, t, pose)?;
+    Ok(row.count)
+}
+
+// The samples before t removed from it; how many it then holds.
+fn remove_samples(
+    instants: &mut [u64],
+    poses: &mut [f64],
+    kind: Kind,
+    count: usize,
+    t: u64,
+) -> usize
+    requires { Row count instants.old poses.old }
+    ensures { outcome (answer result) instants.new poses.new ≡ remove_before_row kind t count instants.old poses.old }
+{
+    let mut row = BufferMut {
+        instants,
+        poses,
+        kind,
+        count,
+    };
+    row.remove_before(t);
+    row.count
+}
+
+impl StoreMut<'_> {
+    // Puts a sample into row r, or 17.
+    pub(crate) fn put_row(
+        &mut self,
+        r: usize,
+        instant: u64,
+        pose: Isometry,
+    ) -> Result<(), RegistryError>
+        requires { StoredRow r (words_mut self.old) }
+        ensures same { SameSlices self.old self.new }
+        ensures outcome { outcome_of result self.new
+            ≡ (let s = words_mut self.old in written s (limits_of s) (put_into s r instant pose)) }
+    {
+        let head = Head {
+            words: self.as_ref().head,
+        };
+        let width = head.capacity() as usize;
+        let kind = head.kind(r);
+        let count = head.count(r);
+        let age = head.max_age();
+        let first = instants_length(r, width);
+        let float = poses_length(r, width);
+        let floats = row_floats(width);
+        let held = insert_sample(
+            &mut self.instants[first..first + width],
+            &mut self.poses[float..float + floats],
+            kind,
+            count,
+            age,
+            instant,
+            pose,
+        )?;
+        set_count(self.head, r, held);
+        Ok(())
+    }
+
+    // Removes row r's samples before t, where it moves.
+    pub(crate) fn wipe_row(&mut self, r: usize, t: u64)
+        requires { StoredRow r (words_mut self.old) }
+        ensures same { SameSlices self.old self.new }
+        ensures words { words_mut self.new
+            ≡ (let s = words_mut self.old in stored (limits_of s) (wiped_in s r t)) }
+    {
+        let head = Head {
+            words: self.as_ref().head,
+        };
+        let width = head.capacity() as usize;
+        let kind = head.kind(r);
+        let count = head.count(r);
+        let first = instants_length(r, width);
+        let float = poses_length(r, width);
+        let floats = row_floats(width);
+        let left = remove_samples(
+            &mut self.instants[first..first + width],
+            &mut self.poses[float..float + floats],
+            kind,
+            count,
+            t,
+        );
+        set_count(self.head, r, left);
+    }
 }

@@ -1,28 +1,32 @@
 // Opening a store.
 ghost use Rattle.std.specs.Prelude.{◌≡◌};
-ghost use Rattle.buffer.specs.Answers.{age_of};
-ghost use Rattle.registry.specs.Answers.{reply_of};
-ghost use Rattle.registry.specs.Calls.{outcome, store_of, open_of};
+ghost use Rattle.registry.specs.Calls.{outcome_of, words_mut, SameSlices, open_of};
 
-use crate::answer::Answer;
-use crate::checked;
-use crate::soundness::sizes;
-use buffer::max_age::MaxAge;
+use crate::error::RegistryError;
+use crate::limits::Limits;
+use crate::store::StoreMut;
 
-// Overwrites everything with a store of these sizes and this age, with no row used.
-pub fn open(
-    head: &mut [u64],
-    instants: &mut [u64],
-    poses: &mut [f64],
-    rows: u64,
-    samples: u64,
-    max_age: MaxAge,
-) -> Answer
-    ensures { outcome (reply_of result) head.new instants.new poses.new
-        ≡ open_of (store_of head.old instants.old poses.old) (record { rows = rows; capacity = samples; age = age_of max_age }) }
-{
-    if !sizes::sizes_fit(head, instants, poses, rows, samples) {
-        return Answer::Sizes;
+impl StoreMut<'_> {
+    // Overwrites everything with a store of these sizes and this age, with no row used.
+    #[tactic(auto, unfolding(crate::specs::Calls::open_of))]
+    pub fn open(
+        &mut self,
+        rows: u64,
+        samples: u64,
+        max_age: Option<u64>,
+    ) -> Result<(), RegistryError>
+        ensures same { SameSlices self.old self.new }
+        ensures outcome { outcome_of result self.new
+            ≡ open_of (words_mut self.old) (record { rows = rows; capacity = samples; age = max_age }) }
+    {
+        if !self.as_ref().sizes_fit(rows, samples) {
+            return Err(RegistryError::Sizes);
+        }
+        self.overwrite(Limits {
+            rows,
+            samples,
+            max_age,
+        });
+        Ok(())
     }
-    checked::open(head, instants, poses, rows, samples, max_age)
 }

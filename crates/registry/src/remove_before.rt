@@ -1,26 +1,34 @@
 // Wiping.
 ghost use Rattle.std.specs.Prelude.{◌≡◌};
-ghost use Rattle.registry.specs.Answers.{reply_of};
-ghost use Rattle.registry.specs.Calls.{outcome, store_of, wipe_of};
+ghost use Rattle.registry.specs.Tree.{wipe};
+ghost use Rattle.registry.specs.Store.{limits_of, tree_of};
+ghost use Rattle.registry.specs.Sound.{SoundStore};
+ghost use Rattle.registry.specs.Calls.{outcome_of, words_mut, SameSlices, written, wipe_of};
 
-use crate::answer::Answer;
-use crate::check::Checked;
-use crate::{check, checked};
+use crate::error::RegistryError;
+use crate::store::StoreMut;
 
-// Drops a moving child's poses before the instant.
-pub fn remove_before(
-    head: &mut [u64],
-    instants: &mut [u64],
-    poses: &mut [f64],
-    child: u32,
-    t: u64,
-) -> Answer
-    ensures { outcome (reply_of result) head.new instants.new poses.new
-        ≡ wipe_of (store_of head.old instants.old poses.old) child t }
-{
-    match check::check(head, instants, poses) {
-        Checked::Sizes => Answer::Sizes,
-        Checked::UnsoundStore => Answer::UnsoundStore,
-        Checked::Sound => checked::remove_before(head, instants, poses, child, t),
+impl StoreMut<'_> {
+    // Drops a moving child's poses before the instant.
+    pub fn remove_before(&mut self, child: u32, t: u64) -> Result<(), RegistryError>
+        ensures same { SameSlices self.old self.new }
+        ensures outcome { outcome_of result self.new ≡ wipe_of (words_mut self.old) child t }
+    {
+        self.as_ref().check()?;
+        self.wipe(child, t)
+    }
+
+    // The same where the store is sound.
+    pub(crate) fn wipe(&mut self, child: u32, t: u64) -> Result<(), RegistryError>
+        requires { SoundStore (words_mut self.old) }
+        ensures same { SameSlices self.old self.new }
+        ensures outcome { outcome_of result self.new
+            ≡ (let s = words_mut self.old in written s (limits_of s) (wipe (tree_of s) child t)) }
+    {
+        let Ok(row) = self.as_checked().rows().find_row(u64::from(child)) else {
+            return Err(RegistryError::UnknownFrame(child));
+        };
+        self.wipe_row(row, t);
+        Ok(())
     }
 }

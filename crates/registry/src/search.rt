@@ -1,81 +1,78 @@
 // The search for a frame's row.
-ghost use Rattle.std.specs.Prelude.{◌<◌};
-ghost use Rattle.registry.specs.Store.{used_in};
-ghost use Rattle.registry.specs.layout.Rows.{head_of, RisingRows, IsRow, Finds, FirstRow};
+ghost use Rattle.std.specs.Prelude.{◌≡◌, ◌<◌, IfSome, MatchResult};
+ghost use Rattle.registry.specs.layout.Rows.{IsRow, AbsentAt, FirstRow};
+ghost use Rattle.registry.specs.paths.Edges.{OfTree, edge_parent};
 
-use crate::layout;
+use crate::rows::Rows;
 
-// The row of the frame, or the place where its row would stand.
-#[derive(Drop)]
-pub(crate) enum Found {
-    At(usize),
-    Absent(usize),
-}
-
-// Where the row stands if the children are consecutive numbers; else the number of rows used.
-fn consecutive_row(head: &[u64], frame: u64) -> usize
-    requires { RisingRows head.now }
-    ensures { result < used_in (head_of head.now) → IsRow head.now frame result }
-{
-    let used = layout::used(head);
-    if used == 0 {
-        return used;
-    }
-    let first = layout::child_at(head, 0);
-    if frame < first {
-        return used;
-    }
-    if used as u64 <= frame - first {
-        return used;
-    }
-    let row = (frame - first) as usize;
-    if layout::child_at(head, row) != frame {
-        return used;
-    }
-    row
-}
-
-// Binary search.
-fn search_row(head: &[u64], frame: u64) -> Found
-    requires { RisingRows head.now }
-    ensures { Finds head.now frame result }
-{
-    let mut low = 0;
-    let mut high = layout::used(head);
-    while low < high {
-        let middle = low + (high - low) / 2;
-        let child = layout::child_at(head, middle);
-        if child == frame {
-            return Found::At(middle);
+impl Rows<'_> {
+    // The row of the frame where the children are consecutive numbers.
+    fn consecutive_row(&self, frame: u64) -> Option<usize>
+        ensures { IfSome result (IsRow self.now.head.now frame) }
+    {
+        let used = self.used();
+        if used == 0 {
+            return None;
         }
-        if child < frame {
-            low = middle + 1;
-        } else {
-            high = middle;
+        let row = frame.checked_sub(self.child(0))?;
+        if used as u64 <= row {
+            return None;
+        }
+        let row = row as usize;
+        if self.child(row) != frame {
+            return None;
+        }
+        Some(row)
+    }
+
+    // Binary search, written out: std's searches a slice, and a child is every fourth word of the head.
+    fn search_row(&self, frame: u64) -> Result<usize, usize>
+        ensures { MatchResult result (IsRow self.now.head.now frame) (AbsentAt self.now.head.now frame) }
+    {
+        let mut low = 0;
+        let mut high = self.used();
+        while low < high {
+            let middle = low + (high - low) / 2;
+            let child = self.child(middle);
+            if child == frame {
+                return Ok(middle);
+            }
+            if child < frame {
+                low = middle + 1;
+            } else {
+                high = middle;
+            }
+        }
+        Err(low)
+    }
+
+    // The row of the frame, or the place where its row would stand. Most trees number their frames
+    // consecutively, so that place is tried first.
+    pub(crate) fn find_row(&self, frame: u64) -> Result<usize, usize>
+        ensures { MatchResult result (IsRow self.now.head.now frame) (AbsentAt self.now.head.now frame) }
+    {
+        match self.consecutive_row(frame) {
+            Some(row) => Ok(row),
+            None => self.search_row(frame),
         }
     }
-    Found::Absent(low)
-}
 
-// Most trees number their frames consecutively, so that place is tried first.
-pub(crate) fn find_row(head: &[u64], frame: u64) -> Found
-    requires { RisingRows head.now }
-    ensures { Finds head.now frame result }
-{
-    let row = consecutive_row(head, frame);
-    if row < layout::used(head) {
-        return Found::At(row);
+    // The first row whose child is the frame or greater; the number of rows used where there is none.
+    pub(crate) fn row_from(&self, frame: u64) -> usize
+        ensures { FirstRow self.now.head.now frame result }
+    {
+        match self.find_row(frame) {
+            Ok(row) | Err(row) => row,
+        }
     }
-    search_row(head, frame)
-}
 
-// The first row whose child is the frame or greater; the number of rows used where there is none.
-pub(crate) fn row_from(head: &[u64], frame: u64) -> usize
-    requires { RisingRows head.now }
-    ensures { FirstRow head.now frame result }
-{
-    match find_row(head, frame) {
-        Found::At(row) => row,
-        Found::Absent(place) => place,
+    // The frame's parent, none where the frame is no child.
+    pub(crate) fn parent_of(&self, frame: u64) -> Option<u64>
+        ensures { OfTree self.now.head.now (λ t. result ≡ edge_parent t frame) }
+    {
+        match self.find_row(frame) {
+            Ok(row) => Some(self.parent(row)),
+            Err(_) => None,
+        }
     }
 }

@@ -1,46 +1,35 @@
 -- A byte by its two hexadecimal digits. Assumes nothing.
-use mathlib.Core.Path.{◌≡◌, sym, ap, ◌∙◌}
-use Rattle.std.specs.Prelude.{None, Some}
-use mathlib.Core.List.{List, [], ◌∷◌}
-use Prim.Native.Nat.{ℕ, suc, ◌+◌, ◌*◌, ◌^◌, ◌≤◌, ◌<◌}
-use native.Mathlib.Nat.{min-le_right}
-use native.Mathlib.Numerals.{add-one}
-use native.Mathlib.Omega.{arith}
-use borrow.Author.Tests.{lt-ltb, le-ltb, ne_eqb}
-use lib.ListN.{length, take, drop, get_or, length-take, length-drop}
-use lib.Seq.{drop-cons}
-use Rattle.text.specs.Digits.{digit}
+use Rattle.std.proofs.Common.{◌≡◌, refl, sym, ap, Bool, true, false, cond, ℕ, ◌+◌, ◌*◌, ◌^◌, ◌<◌, List, [], ◌∷◌, length, take, drop, get_or, arith}
+use Rattle.std.specs.Prelude.{Option, None, Some}
+use borrow.Author.Tests.{ltb-true, lt-ltb, le-ltb}
+use lib.Dec.{ltb}
+use Rattle.text.specs.Digits.{digit, below}
 use Rattle.text.specs.Reading.{byte, byte_at}
 
-module _ (line : List ℕ) (at : ℕ) where
-  -- fewer than two bytes from the place on
-  pub byte_short : length line < at + 2 → byte_at line at ≡ None
-  unfolding byte_at
-  byte_short h =
-      let few : length (take 2 (drop at line)) ≤ length (drop at line) = rw (length-take 2 (drop at line)) (min-le_right 2 (length (drop at line))) in
-      simp (ne_eqb (length (take 2 (drop at line))) 2 (λ e. omega (arith, few, length-drop at line)))
+-- a high and a low digit
+abbrev pub two : Option ℕ → Option ℕ → Option ℕ
+two None low = None
+two (Some high) None = None
+two (Some high) (Some low) = Some (16 * high + low)
 
-  module _ (h : at + 1 < length line) where
-    abbrev high : ℕ
-    high = get_or line at 0
+digits : (a b : ℕ) → two (below 16 (Some (digit a))) (below 16 (Some (digit b))) ≡ byte (a ∷ b ∷ [])
+digits a b = go (ltb (digit a) 16) (ltb (digit b) 16) (ltb-true (digit a) 16) (ltb-true (digit b) 16)
+  where
+    go : (s t : Bool) → (s ≡ true → digit a < 16) → (t ≡ true → digit b < 16)
+        → two (cond s (Some (digit a)) None) (cond t (Some (digit b)) None) ≡ below (2 ^ 64) (cond s (cond t (Some ((0 * 16 + digit a) * 16 + digit b)) None) None)
+    go false t p q = refl
+    go true false p q = refl
+    go true true p q =
+        let high = p refl in
+        let low = q refl in
+        simp (lt-ltb ((0 * 16 + digit a) * 16 + digit b) (2 ^ 64) (omega arith)) (ap Some (omega arith))
 
-    abbrev low : ℕ
-    low = get_or line (at + 1) 0
-
-    two : take 2 (drop at line) ≡ high ∷ low ∷ []
-    two =
-        ap (take 2) (drop-cons line at 0 (omega arith))
-        ∙ ap (λ (l : List ℕ). high ∷ take 1 l) (drop-cons line (suc at) 0 (omega arith))
-        ∙ ap (λ (k : ℕ). high ∷ get_or line k 0 ∷ []) (sym (add-one at))
-
-    pub byte_other_high : 16 ≤ digit high → byte_at line at ≡ None
-    unfolding byte_at
-    byte_other_high d = ap byte two ∙ simp (le-ltb (digit high) 16 d)
-
-    pub byte_other_low : digit high < 16 → 16 ≤ digit low → byte_at line at ≡ None
-    unfolding byte_at
-    byte_other_low e d = ap byte two ∙ simp (lt-ltb (digit high) 16 e, le-ltb (digit low) 16 d)
-
-    pub byte_value : digit high < 16 → digit low < 16 → byte_at line at ≡ Some ((0 * 16 + digit high) * 16 + digit low)
-    unfolding byte_at
-    byte_value e d = ap byte two ∙ simp (lt-ltb (digit high) 16 e, lt-ltb (digit low) 16 d, lt-ltb ((0 * 16 + digit high) * 16 + digit low) (2 ^ 64) (omega arith))
+pub read_byte_lem : (line : List ℕ) (at : ℕ)
+    → byte_at line at ≡ cond (ltb (length (drop at line)) 2) None (two (below 16 (Some (digit (get_or (drop at line) 0 0)))) (below 16 (Some (digit (get_or (drop at line) 1 0)))))
+unfolding byte_at
+read_byte_lem line at = go (drop at line)
+  where
+    go : (l : List ℕ) → byte (take 2 l) ≡ cond (ltb (length l) 2) None (two (below 16 (Some (digit (get_or l 0 0)))) (below 16 (Some (digit (get_or l 1 0)))))
+    go [] = refl
+    go (a ∷ []) = refl
+    go (a ∷ b ∷ l) = sym (simp (le-ltb (length (a ∷ b ∷ l)) 2 (omega arith)) (digits a b))

@@ -12,15 +12,6 @@ digit_ten c a b = simp (le-leb 48 c a, le-leb c 57 (omega arith))
 pub digit_letter : (c : ℕ) → 97 ≤ c → c < 103 → digit c ≡ c - 87
 digit_letter c a b = simp (le-leb 48 c (omega arith), lt-leb c 57 (omega arith), le-leb 97 c a, le-leb c 102 (omega arith))
 
-pub digit_low : (c : ℕ) → c < 48 → digit c ≡ 16
-digit_low c a = simp (lt-leb 48 c a, lt-leb 97 c (omega arith))
-
-pub digit_between : (c : ℕ) → 58 ≤ c → c < 97 → digit c ≡ 16
-digit_between c a b = simp (le-leb 48 c (omega arith), lt-leb c 57 (omega arith), lt-leb 97 c b)
-
-pub digit_high : (c : ℕ) → 103 ≤ c → digit c ≡ 16
-digit_high c a = simp (le-leb 48 c (omega arith), lt-leb c 57 (omega arith), le-leb 97 c (omega arith), lt-leb c 102 (omega arith))
-
 pub digit_character_ten : (d : ℕ) → d < 10 → digit_character d ≡ 48 + d
 digit_character_ten d h = simp (lt-ltb d 10 h)
 

@@ -65,6 +65,9 @@ negated nan s a c h = h
 negated (inf t) s a c h = h
 negated (fin t m e) s a c h = (ap not h.0, h.1)
 
+pub minus_value : {d : ℕ} → d < 10 ^ 15 → HasValue (neg (of_int binary64 (pos d))) true d 1
+minus_value {d} h = negated (of_int binary64 (pos d)) false d 1 (digits_value h)
+
 unlike_plus : (s : Bool) → unlike s false ≡ s
 unlike_plus true = refl
 unlike_plus false = refl
@@ -90,7 +93,7 @@ module _ (s : Bool) (a b : ℕ) where
       regroup x y = simp mul-one refl
 
       again : (u v : ℕ) → a * u * (b * v) ≡ a * b * (u * v)
-      again u v = simp (mul_assoc, mul_comm, mul_left_comm) refl
+      again u v = simp (mul_assoc, mul_left_comm) refl
 
   pub quotient_rounded : 0 < b → (x y : Float) → HasValue x s a 1 → HasValue y false b 1 → div binary64 x y ≡ round binary64 s a b
   unfolding div

@@ -1,49 +1,39 @@
--- The number that digits are: one digit more, a byte that is none, and a number that 64 bits do not hold. Assumes nothing.
-use mathlib.Core.Path.{◌≡◌, refl, ap, ◌∙◌}
-use mathlib.Core.Bool.{Bool, true, false, cond}
+-- The number that digits are, where 64 bits do not hold it. Assumes nothing.
+use Rattle.std.proofs.Common.{◌≡◌, refl, ap, ◌∙◌, Bool, true, false, cond, ℕ, suc, ◌+◌, ◌*◌, ◌≤◌, ◌<◌, List, [], ◌∷◌, length, drop, get_or, drop-cons, arith}
 use Rattle.std.specs.Prelude.{None, Some}
-use mathlib.Core.List.{List, [], ◌∷◌}
-use Prim.Native.Nat.{ℕ, suc, ◌+◌, ◌*◌, ◌/◌, ◌≤◌, ◌<◌}
-use native.Mathlib.Nat.{mul-le-mul_left, mul-one, le-div_iff_mul-le, div-lt_iff_lt-mul}
-use native.Mathlib.Numerals.{add-one}
-use native.Mathlib.Omega.{arith}
-use borrow.Author.Tests.{lt-ltb, le-ltb}
+use native.Mathlib.Nat.{mul-le-mul_left, mul-one}
+use Rattle.time.proofs.Options.{Some-injective, None-ne-Some}
+use borrow.Author.Tests.{le-ltb, ltb-true}
 use lib.Dec.{ltb}
-use lib.ListN.{length, drop, get_or, drop_of_length-le}
-use lib.Seq.{drop-cons}
 use Rattle.text.specs.Digits.{digit, number_from, below}
 
-module _ (base : ℕ) where
-  -- the digits behind the first i: one more, a byte that is none, and no more
-  pub number_more : (w : List ℕ) (n i : ℕ) → i < length w → digit (get_or w i 0) < base
-      → number_from base n (drop i w) ≡ number_from base (n * base + digit (get_or w i 0)) (drop (i + 1) w)
-  number_more w n i h d = ap (number_from base n) (drop-cons w i 0 h) ∙ simp (lt-ltb (digit (get_or w i 0)) base d, add-one)
-
-  pub number_other : (w : List ℕ) (n i : ℕ) → i < length w → base ≤ digit (get_or w i 0) → number_from base n (drop i w) ≡ None
-  number_other w n i h d = ap (number_from base n) (drop-cons w i 0 h) ∙ simp (le-ltb (digit (get_or w i 0)) base d)
-
-  pub number_last : (w : List ℕ) (n i : ℕ) → length w ≤ i → number_from base n (drop i w) ≡ Some n
-  number_last w n i h = ap (number_from base n) (drop_of_length-le w h)
+module _ (base bound : ℕ) where
+  -- a digit more
+  more : (n c : ℕ) (w : List ℕ) → (bound ≤ n * base + digit c → below bound (number_from base (n * base + digit c) w) ≡ None) → (digit c < base → bound ≤ n * base + digit c)
+      → below bound (number_from base n (c ∷ w)) ≡ None
+  more n c w above h = go (ltb (digit c) base) (ltb-true (digit c) base)
+    where
+      go : (t : Bool) → (t ≡ true → digit c < base) → below bound (cond t (number_from base (n * base + digit c) w) None) ≡ None
+      go true p = above (h (p refl))
+      go false p = refl
 
   -- further digits make no number less
-  first : (bound n c : ℕ) (w : List ℕ) → below bound (number_from base (n * base + digit c) w) ≡ None → below bound (number_from base n (c ∷ w)) ≡ None
-  first bound n c w e = go (ltb (digit c) base)
+  above : (n : ℕ) (w : List ℕ) → bound ≤ n → below bound (number_from base n w) ≡ None
+  above n [] h = simp (le-ltb n bound h)
+  above n (c ∷ w) h = more n c w (above (n * base + digit c) w) (λ d. omega (arith, mul-le-mul_left n (positive d), mul-one n))
     where
-      go : (b : Bool) → below bound (cond b (number_from base (n * base + digit c) w) None) ≡ None
-      go true = e
-      go false = refl
+      positive : digit c < base → 0 < base
+      positive d = omega arith
 
-  module _ (positive : 0 < base) (bound : ℕ) where
-    number_above : (n : ℕ) (w : List ℕ) → bound ≤ n → below bound (number_from base n w) ≡ None
-    number_above n [] h = simp (le-ltb n bound h)
-    number_above n (c ∷ w) h = first bound n c w (number_above (n * base + digit c) w (omega (arith, mul-le-mul_left n positive, mul-one n)))
+  pub number_over : (w : List ℕ) (n i : ℕ) → i < length w → bound ≤ n * base + digit (get_or w i 0) → below bound (number_from base n (drop i w)) ≡ None
+  number_over w n i h o =
+      ap (λ (l : List ℕ). below bound (number_from base n l)) (drop-cons w i 0 h)
+      ∙ more n (get_or w i 0) (drop (suc i) w) (above (n * base + digit (get_or w i 0)) (drop (suc i) w)) (λ d. o)
 
-    pub number_over : (w : List ℕ) (n i : ℕ) → i < length w → bound ≤ n * base + digit (get_or w i 0) → below bound (number_from base n (drop i w)) ≡ None
-    number_over w n i h o = ap (λ (l : List ℕ). below bound (number_from base n l)) (drop-cons w i 0 h) ∙ first bound n (get_or w i 0) (drop (suc i) w) (number_above (n * base + digit (get_or w i 0)) (drop (suc i) w) o)
-
--- the test before a product
-pub product_above : {k most v : ℕ} → 0 < k → most / k < v → most < v * k
-product_above p h = (div-lt_iff_lt-mul p).0 h
-
-pub product_within : {k most v : ℕ} → 0 < k → v ≤ most / k → v * k ≤ most
-product_within p h = (le-div_iff_mul-le p).0 h
+-- what is below a bound is itself
+pub below_same : (bound n d : ℕ) → below bound (Some n) ≡ Some d → n ≡ d
+below_same bound n d e = go (ltb n bound) e
+  where
+    go : (t : Bool) → cond t (Some n) None ≡ Some d → n ≡ d
+    go true e = Some-injective _ _ e
+    go false e = absurd (None-ne-Some _ e)

@@ -2,7 +2,6 @@
 use mathlib.Core.Path.{◌≡◌, refl, sym, ap, ◌∙◌, subst}
 use mathlib.Core.Bool.{Bool, true, false, cond}
 use Rattle.std.specs.Prelude.{Option, None, Some, unwrap_or}
-use Rattle.std.specs.Option.{option_or}
 use Rattle.time.proofs.Options.{None-ne-Some}
 use mathlib.Core.List.{List, [], ◌∷◌, ◌++◌, append_assoc, append-nil}
 use Prim.Native.Nat.{ℕ, zero, suc, ◌+◌, ◌*◌, ◌/◌, ◌%◌, ◌^◌, ◌≤◌, ◌<◌}
@@ -17,7 +16,7 @@ use lib.Ieee.{Float, binary64, fits, is_nan, to_bits}
 use lib.Ieee.Bits.{of_bits-to_bits, to_bits-lt}
 use Rattle.text.specs.Digits.{digit_character, digit, digits, number_from, below, digit_count}
 use Rattle.text.specs.Reading.{up_to_space, going_on, not_empty, read_at, number, frame, float}
-use Rattle.text.specs.Writing.{number_text, written}
+use Rattle.text.specs.Writing.{number_text, float_text, written}
 use Rattle.text.specs.Laws.{ReadBack, NumberBack, FrameBack, FloatBack, ByteBack, NanNotRead, WrittenBack, NoZeroInFront}
 use Rattle.text.proofs.DigitCharacters.{digit_digit_character, digit_character_no_space}
 use Rattle.text.proofs.DigitCounts.{digit_count_some, digit_count_hold, first_digit}
@@ -36,6 +35,7 @@ number_append base a m (c ∷ u) v e = go (ltb (digit c) base) e (number_append 
     go false e h = absurd (None-ne-Some _ e)
 
 number_digits : (base : ℕ) → 0 < base → base ≤ 16 → (k n : ℕ) → n < base ^ k → number_from base 0 (digits base k n) ≡ Some n
+unfolding digits
 number_digits base p q zero n h = ap Some (sym (lt-one (subst (λ (m : ℕ). n < m) (pow-zero base) h)))
 number_digits base p q (suc k) n h =
     let less : n / base < base ^ k = (div-lt_iff_lt-mul p).1 (subst (λ (m : ℕ). n < m) (pow-suc base k) h) in
@@ -50,6 +50,7 @@ abbrev Solid : List ℕ → Type 0
 Solid u = (v : List ℕ) → up_to_space (u ++ v) ≡ u ++ up_to_space v
 
 solid_digits : (base k n : ℕ) → Solid (digits base k n)
+unfolding digits
 solid_digits base zero n v = refl
 solid_digits base (suc k) n v =
     ap up_to_space (append_assoc (digits base k (n / base)) (digit_character (n % base) ∷ []) v)
@@ -90,13 +91,14 @@ float_text_lem : (x : Float) → T (fits binary64 x) → float (digits 16 16 (to
 float_text_lem x f =
     let b = to_bits binary64 x in
     let h : b < 2 ^ 64 = to_bits-lt binary64 x f in
-    simp (number_digits 16 (omega arith) (omega arith) 16 b h, lt-ltb b (2 ^ 64) h, of_bits-to_bits binary64 x f)
+    simp (length_digits 16 16 b, number_digits 16 (omega arith) (omega arith) 16 b h, lt-ltb b (2 ^ 64) h, of_bits-to_bits binary64 x f)
 
 pub float_back : FloatBack
+unfolding float_text
 float_back x f h = rw h (digits_read float x 16 16 (to_bits binary64 x) (omega arith) (float_text_lem x f))
 
 pub nan_not_read : NanNotRead
-unfolding is_nan
+unfolding is_nan float_text
 nan_not_read = refl
 
 pub written_back : WrittenBack

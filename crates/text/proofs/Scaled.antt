@@ -1,49 +1,34 @@
--- The digits times a power of ten: which are refused, and the one step that gives the others. Assumes nothing.
+-- The digits times a power of ten, by one product or one quotient of exact floats. Assumes nothing.
 use mathlib.Core.Path.{◌≡◌, sym, ap, ◌∙◌}
 use mathlib.Core.Bool.{Bool, false}
-use Rattle.std.specs.Prelude.{Option, None, Some}
+use Rattle.std.specs.Prelude.{Some}
 use Prim.Native.Nat.{ℕ, ◌+◌, ◌-◌, ◌*◌, ◌^◌, ◌≤◌, ◌<◌}
 use native.Mathlib.Nat.{mul-one, one-le-pow, zero-lt-suc}
 use native.Mathlib.Omega.{arith}
-use borrow.Author.Tests.{lt-ltb, le-ltb, le-leb, lt-leb}
+use borrow.Author.Tests.{lt-ltb, le-leb}
 use lib.Ieee.{Float, binary64, mul, div, round}
 use lib.Ieee.Exact.{HasValue}
 use Rattle.text.specs.Decimal.{rounded, scaled}
-use Rattle.text.specs.Reading.{going_on}
 use Rattle.text.proofs.Exact.{product_rounded, quotient_rounded}
 
-module _ (negative : Bool) (d up down next : ℕ) where
-  -- what is read of the digits times 10 ^ up / 10 ^ down
-  abbrev Read : Option (Float × ℕ) → Type 0
-  Read o = o ≡ going_on (scaled negative d up down) next
+module _ (negative : Bool) (d up down : ℕ) (few : d ≤ 999999999999999) where
+  within : (x : Float) → x ≡ rounded negative d up down → up ≤ down + 22 → down ≤ up + 22 → Some x ≡ scaled negative d up down
+  within x e h g = simp (lt-ltb d (10 ^ 15) (omega arith), le-leb up (down + 22) h, le-leb down (up + 22) g) (ap Some e)
 
-  pub too_many : 999999999999999 < d → Read None
-  too_many h = simp (le-ltb d (10 ^ 15) h)
+  -- one product or one quotient of exact floats
+  module _ (x y : Float) (p : HasValue x negative d 1) where
+    pub multiplied : down ≤ up → up - down ≤ 22 → HasValue y false (10 ^ (up - down)) 1 → Some (mul binary64 x y) ≡ scaled negative d up down
+    multiplied h g q =
+        let z : 0 ≡ down - up = omega arith in
+        let e = product_rounded negative d (10 ^ (up - down)) x y p q in
+        within (mul binary64 x y) (e ∙ ap (λ (k : ℕ). round binary64 negative (d * 10 ^ (up - down)) (10 ^ k)) z) (omega arith) (omega arith)
 
-  module _ (few : d ≤ 999999999999999) where
-    pub too_high_lem : down ≤ up → 22 < up - down → Read None
-    too_high_lem h g = simp (lt-ltb d (10 ^ 15) (omega arith), lt-leb up (down + 22) (omega arith))
-
-    pub too_low_lem : up < down → 22 < down - up → Read None
-    too_low_lem h g = simp (lt-ltb d (10 ^ 15) (omega arith), le-leb up (down + 22) (omega arith), lt-leb down (up + 22) (omega arith))
-
-    within : (x : Float) → x ≡ rounded negative d up down → up ≤ down + 22 → down ≤ up + 22 → Read (Some (x, next))
-    within x e h g = simp (lt-ltb d (10 ^ 15) (omega arith), le-leb up (down + 22) h, le-leb down (up + 22) g) (ap (λ (z : Float). Some (z, next)) e)
-
-    -- one product or one quotient of exact floats
-    module _ (x y : Float) (p : HasValue x negative d 1) where
-      pub multiplied : down ≤ up → up - down ≤ 22 → HasValue y false (10 ^ (up - down)) 1 → Read (Some (mul binary64 x y, next))
-      multiplied h g q =
-          let z : 0 ≡ down - up = omega arith in
-          let e = product_rounded negative d (10 ^ (up - down)) x y p q in
-          within (mul binary64 x y) (e ∙ ap (λ (k : ℕ). round binary64 negative (d * 10 ^ (up - down)) (10 ^ k)) z) (omega arith) (omega arith)
-
-      pub divided : up < down → down - up ≤ 22 → HasValue y false (10 ^ (down - up)) 1 → Read (Some (div binary64 x y, next))
-      divided h g q =
-          let z : 0 ≡ up - down = omega arith in
-          let e = quotient_rounded negative d (10 ^ (down - up)) (one-le-pow (down - up) 10 (zero-lt-suc 9)) x y p q in
-          within (div binary64 x y)
-          (e
-          ∙ ap (λ (n : ℕ). round binary64 negative n (10 ^ (down - up))) (sym (mul-one d))
-          ∙ ap (λ (k : ℕ). round binary64 negative (d * 10 ^ k) (10 ^ (down - up))) z)
-          (omega arith) (omega arith)
+    pub divided : up < down → down - up ≤ 22 → HasValue y false (10 ^ (down - up)) 1 → Some (div binary64 x y) ≡ scaled negative d up down
+    divided h g q =
+        let z : 0 ≡ up - down = omega arith in
+        let e = quotient_rounded negative d (10 ^ (down - up)) (one-le-pow (down - up) 10 (zero-lt-suc 9)) x y p q in
+        within (div binary64 x y)
+        (e
+        ∙ ap (λ (n : ℕ). round binary64 negative n (10 ^ (down - up))) (sym (mul-one d))
+        ∙ ap (λ (k : ℕ). round binary64 negative (d * 10 ^ k) (10 ^ (down - up))) z)
+        (omega arith) (omega arith)

@@ -1,45 +1,55 @@
--- The word at a place: where it ends, that it lies within the line, and what is read from it. Assumes nothing.
-use mathlib.Core.Path.{◌≡◌, refl, ap, ◌∙◌}
-use mathlib.Core.Bool.{cond}
-use Rattle.std.specs.Prelude.{Option, None}
-use mathlib.Core.List.{List, [], ◌∷◌}
-use Prim.Native.Nat.{ℕ, ◌+◌, ◌-◌, ◌≤◌, ◌<◌}
-use native.Mathlib.Omega.{arith}
+-- The word at a place of a line, and what is read from it. Assumes nothing.
+use Rattle.std.proofs.Common.{◌≡◌, refl, sym, ap, ◌∙◌, cond, ℕ, ◌+◌, ◌^◌, List, [], ◌∷◌, length, drop, arith}
+use Rattle.std.specs.Prelude.{Option, None, Some}
+use borrow.Author.Tests.{ne_eqb}
 use lib.Dec.{eqb}
-use lib.ListN.{length, take, drop, length-drop}
+use Rattle.text.specs.Digits.{below}
 use Rattle.text.specs.Decimal.{before}
-use Rattle.text.specs.Reading.{up_to_space, word_at, going_on, not_empty, read_at}
-use Rattle.text.proofs.Before.{before_within, before_taken}
+use Rattle.text.specs.Reading.{up_to_space, word_at, going_on, not_empty, read_at, any_word, number, frame}
 
 -- the word ends before the first space (32)
-pub up_is_before : (l : List ℕ) → before 32 l ≡ up_to_space l
+up_is_before : (l : List ℕ) → before 32 l ≡ up_to_space l
 up_is_before [] = refl
 up_is_before (c ∷ l) = ap (λ (w : List ℕ). cond (eqb c 32) [] (c ∷ w)) (up_is_before l)
 
--- a place before which the word ends
-module _ (l : List ℕ) (at end : ℕ) (e : end ≡ at + length (word_at l at)) where
-  pub end_within : (end ≡ at → ⊥) → end ≤ length l
-  end_within ne = omega (arith, before_within 32 (drop at l), ap length (up_is_before (drop at l)), length-drop at l)
+-- what stands before the first space, as the word that is read
+abbrev pub some_word : List ℕ → ℕ → Option (List ℕ × ℕ)
+some_word word at = cond (eqb (length word) 0) None (Some (word, at + length word + 1))
 
-  pub no_word : {A : Type 0} (form : List ℕ → Option A) → end ≡ at → None ≡ read_at form l at
-  unfolding read_at
-  no_word form h = go (word_at l at) (omega arith)
-    where
-      go : (w : List ℕ) → length w ≡ 0 → None ≡ going_on (not_empty form w) (at + length w + 1)
-      go [] z = refl
-      go (c ∷ w) z = absurd (omega arith)
+pub read_word_lem : (line : List ℕ) (at : ℕ) → read_at any_word line at ≡ some_word (before 32 (drop at line)) at
+unfolding read_at
+read_word_lem line at = go (word_at line at) ∙ ap (λ (w : List ℕ). some_word w at) (sym (up_is_before (drop at line)))
+  where
+    go : (w : List ℕ) → going_on (not_empty any_word w) (at + length w + 1) ≡ some_word w at
+    go [] = refl
+    go (c ∷ w) = simp (ne_eqb (length (c ∷ w)) 0 (λ e. omega arith))
 
-  pub word_read_lem : {A : Type 0} (form : List ℕ → Option A) → (end ≡ at → ⊥) → going_on (form (take (end - at) (drop at l))) (end + 1) ≡ read_at form l at
-  unfolding read_at
-  word_read_lem form ne =
-      ap (λ (n : ℕ). going_on (form (take n (drop at l))) (end + 1)) width ∙ ap (λ (w : List ℕ). going_on (form w) (end + 1)) taken ∙ ap (λ (n : ℕ). going_on (form (word_at l at)) (n + 1)) e ∙ go (word_at l at) (omega arith)
-    where
-      width : end - at ≡ length (before 32 (drop at l))
-      width = omega (arith, ap length (up_is_before (drop at l)))
+-- a word that was read, or none, read in a form
+abbrev pub in_form : {A : Type 0} → (List ℕ → Option A) → Option (List ℕ × ℕ) → Option (A × ℕ)
+in_form form None = None
+in_form form (Some (word, next)) = going_on (form word) next
 
-      taken : take (length (before 32 (drop at l))) (drop at l) ≡ word_at l at
-      taken = before_taken 32 (drop at l) ∙ up_is_before (drop at l)
+pub read_in_form : {A : Type 0} (form : List ℕ → Option A) (line : List ℕ) (at : ℕ) → read_at form line at ≡ in_form form (read_at any_word line at)
+unfolding read_at
+read_in_form form line at = go (word_at line at)
+  where
+    go : (w : List ℕ) → going_on (not_empty form w) (at + length w + 1) ≡ in_form form (going_on (not_empty any_word w) (at + length w + 1))
+    go [] = refl
+    go (c ∷ w) = refl
 
-      go : (w : List ℕ) → 0 < length w → going_on (form w) (at + length (word_at l at) + 1) ≡ going_on (not_empty form w) (at + length (word_at l at) + 1)
-      go [] z = absurd (omega arith)
-      go (c ∷ w) z = refl
+-- a number that was read, or none, as a frame
+abbrev pub as_frame : Option (ℕ × ℕ) → Option (ℕ × ℕ)
+as_frame None = None
+as_frame (Some (n, next)) = going_on (below (2 ^ 32) (Some n)) next
+
+pub read_frame_lem : (line : List ℕ) (at : ℕ) → read_at frame line at ≡ as_frame (read_at number line at)
+unfolding read_at
+read_frame_lem line at = go (word_at line at)
+  where
+    number_next : (o : Option ℕ) (next : ℕ) → going_on (below (2 ^ 32) o) next ≡ as_frame (going_on o next)
+    number_next None next = refl
+    number_next (Some n) next = refl
+
+    go : (w : List ℕ) → going_on (not_empty frame w) (at + length w + 1) ≡ as_frame (going_on (not_empty number w) (at + length w + 1))
+    go [] = refl
+    go (c ∷ w) = number_next (number (c ∷ w)) (at + length (c ∷ w) + 1)

@@ -11,7 +11,7 @@ abbrev pub digit : ℕ → ℕ
 digit c = cond (leb 48 c && leb c 57) (c - 48) (cond (leb 97 c && leb c 102) (c - 87) 16)
 
 -- the last k digits of n, the most significant first
-abbrev pub digits : ℕ → ℕ → ℕ → List ℕ
+unfoldable pub digits : ℕ → ℕ → ℕ → List ℕ
 digits base zero n = []
 digits base (suc k) n = digits base k (n / base) ++ (digit_character (n % base) ∷ [])
 
@@ -30,6 +30,6 @@ abbrev pub number_in : ℕ → List ℕ → Option ℕ
 number_in base word = below (2 ^ 64) (number_from base 0 word)
 
 -- how many digits n has in base ten, where it has no more than steps + 1
-abbrev pub digit_count : ℕ → ℕ → ℕ
+unfoldable pub digit_count : ℕ → ℕ → ℕ
 digit_count zero n = 1
 digit_count (suc steps) n = cond (ltb n 10) 1 (suc (digit_count steps (n / 10)))

@@ -3,5 +3,4 @@ pub mod Digits
 pub mod Decimal
 pub mod Reading
 pub mod Writing
-pub mod Answers
 pub mod Laws

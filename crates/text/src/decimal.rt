@@ -1,23 +1,12 @@
 // A float as people write it: `1`, `-0.25`, `6.1e-3`. Its digits and its power of ten are exact floats, so that one
 // product or quotient of the two rounds the number once.
-ghost use Rattle.std.specs.Prelude.{◌≡◌, ◌^◌, ◌≤◌, ◌<◌, false, length};
-ghost use Rattle.std.specs.Prelude.{Some};
+ghost use Rattle.std.specs.Prelude.{◌≡◌, ◌^◌, ◌≤◌, ◌<◌, false, Some, option_map, MatchOption};
 ghost use Rattle.std.specs.Float.Ieee.Exact.{HasValue};
 ghost use Rattle.text.specs.Decimal.{before, behind, digits_after, significand, exponent};
 ghost use Rattle.text.specs.Decimal.{scaled as Decimal·scaled};
-ghost use Rattle.text.specs.Decimal.{product as Decimal·product, unsigned as Decimal·unsigned, decimal as Decimal·decimal};
-ghost use Rattle.text.specs.Reading.{going_on};
-ghost use Rattle.text.specs.Answers.{number_read, float_read, exponent_read};
+ghost use Rattle.text.specs.Decimal.{unsigned as Decimal·unsigned, decimal as Decimal·decimal};
 
-use super::read::{Float, Number, digits, first};
-
-// An exponent of ten, above zero or below.
-#[derive(Drop)]
-pub(crate) enum Exponent {
-    Up(u64),
-    Down(u64),
-    Malformed,
-}
+use super::read::{digits, split_once};
 
 // 10^0 to 10^22
 const POWERS: [f64; 23] = [
@@ -25,139 +14,100 @@ const POWERS: [f64; 23] = [
     1e17, 1e18, 1e19, 1e20, 1e21, 1e22,
 ];
 
-// 10^k, exactly.
-fn power(k: u64) -> f64
-    requires { k ≤ 22 }
-    ensures { HasValue result false (10 ^ k) 1 }
+// The most digits, as the largest number that has them.
+const LARGEST: u64 = 999999999999999;
+
+// 10^k, exactly, up to 10^22.
+fn power(k: u128) -> Option<f64>
+    ensures { MatchOption result (22 < k) (λ p. (k ≤ 22) × HasValue p false (10 ^ k) 1) }
 {
-    let powers = POWERS;
-    powers[k as usize]
+    if k > 22 {
+        return None;
+    }
+    Some(POWERS[k as usize])
 }
 
 // The digits with their sign, exactly.
+#[tactic(auto, using(crate::proofs::Exact::whole_float, crate::proofs::Exact::digits_value, crate::proofs::Exact::minus_value,),)]
 fn signed(negative: bool, d: u64) -> f64
     requires { d < 10 ^ 15 }
     ensures { HasValue result negative d 1 }
 {
     let x = d as f64;
-    if negative {
-        return -x;
-    }
-    x
+    if negative { -x } else { x }
 }
 
 // The digits times 10^up / 10^down, where they are at most 15 and the power is from -22 to 22.
-fn scaled(negative: bool, d: u64, up: u64, down: u64, next: usize) -> Float
-    ensures { float_read result ≡ going_on (Decimal·scaled negative d up down) next }
+fn scaled(negative: bool, d: u64, up: u128, down: u128) -> Option<f64>
+    ensures { result ≡ Decimal·scaled negative d up down }
 {
-    if 999999999999999 < d {
-        return Float::Malformed;
+    if d > LARGEST {
+        return None;
     }
     let x = signed(negative, d);
     if up < down {
-        if 22 < down - up {
-            return Float::Malformed;
-        }
-        return Float::Value(x / power(down - up), next);
+        Some(x / power(down - up)?)
+    } else {
+        Some(x * power(up - down)?)
     }
-    if 22 < up - down {
-        return Float::Malformed;
-    }
-    Float::Value(x * power(up - down), next)
 }
 
-// One or more digits where they follow a number, with the place behind them.
-fn some_digits(word: &[u8], number: u64) -> Number
-    ensures { number_read result ≡ going_on (digits_after (Some number) word.now) (length word.now) }
+// The number that one or more digits are where they follow a number.
+fn some_digits(word: &[u8], number: u64) -> Option<u64>
+    ensures { result ≡ digits_after (Some number) word.now }
 {
-    if word.len() == 0 {
-        return Number::Malformed;
+    if word.is_empty() {
+        return None;
     }
-    digits(word, 10, number, word.len())
+    digits(word, 10, number)
 }
 
 // The digits before a point and behind it as one number, and how many stand behind it.
-fn read_significand(word: &[u8]) -> Number
-    ensures { number_read result ≡ significand (before 46 word.now) (behind 46 word.now) }
+fn read_significand(word: &[u8]) -> Option<(u64, usize)>
+    ensures { result ≡ significand (before 46 word.now) (behind 46 word.now) }
 {
-    let point = first(word, 0, b'.');
-    match some_digits(&word[0..point], 0) {
-        Number::Value(whole, place) => {
-            if point == word.len() {
-                return Number::Value(whole, 0);
-            }
-            some_digits(&word[point + 1..], whole)
-        }
-        Number::Malformed => Number::Malformed,
+    let (whole, fraction) = split_once(word, b'.');
+    let number = some_digits(whole, 0)?;
+    let Some(fraction) = fraction else {
+        return Some((number, 0));
+    };
+    Some((some_digits(fraction, number)?, fraction.len()))
+}
+
+// What stands behind an `e`: a whole number, with `-` or without a sign. It is up or down of 10^up / 10^down, and the other is 0.
+fn read_exponent(text: &[u8]) -> Option<(u64, u64)>
+    ensures { result ≡ exponent (Some text.now) }
+{
+    match text {
+        [b'-', digits @ ..] => some_digits(digits, 0).map(|n| (0, n)),
+        _ => some_digits(text, 0).map(|n| (n, 0)),
     }
 }
 
-// What stands behind an `e`: a whole number, with `-` or without a sign.
-fn read_exponent(text: &[u8]) -> Exponent
-    ensures { exponent_read result ≡ exponent (Some text.now) }
+// A decimal without its sign. The power of ten is the exponent less the digits behind the point.
+fn unsigned(negative: bool, word: &[u8]) -> Option<f64>
+    ensures { result ≡ Decimal·unsigned negative word.now }
 {
-    if text.len() == 0 {
-        return Exponent::Malformed;
-    }
-    if text[0] == b'-' {
-        return match some_digits(&text[1..], 0) {
-            Number::Value(n, end) => Exponent::Down(n),
-            Number::Malformed => Exponent::Malformed,
-        };
-    }
-    match some_digits(text, 0) {
-        Number::Value(n, end) => Exponent::Up(n),
-        Number::Malformed => Exponent::Malformed,
-    }
-}
-
-// The digits times the power of ten that is the exponent less the digits behind the point.
-fn product(negative: bool, digits: Number, power: Exponent, next: usize) -> Float
-    ensures { float_read result ≡ going_on (Decimal·product negative (number_read digits) (exponent_read power)) next }
-{
-    match digits {
-        Number::Value(d, count) => {
-            let places = count as u64;
-            match power {
-                Exponent::Up(n) => scaled(negative, d, n, places, next),
-                Exponent::Down(n) => {
-                    if u64::MAX - n < places {
-                        return Float::Malformed; // the power is below -22
-                    }
-                    scaled(negative, d, 0, n + places, next)
-                }
-                Exponent::Malformed => Float::Malformed,
-            }
-        }
-        Number::Malformed => Float::Malformed,
-    }
-}
-
-// A decimal without its sign.
-fn unsigned(negative: bool, word: &[u8], next: usize) -> Float
-    ensures { float_read result ≡ going_on (Decimal·unsigned negative word.now) next }
-{
-    let e = first(word, 0, b'e');
-    if e == word.len() {
-        return product(negative, read_significand(word), Exponent::Up(0), next);
-    }
-    product(
+    let (digits, exponent) = split_once(word, b'e');
+    let (d, places) = read_significand(digits)?;
+    let (up, down) = match exponent {
+        Some(exponent) => read_exponent(exponent)?,
+        None => (0, 0),
+    };
+    scaled(
         negative,
-        read_significand(&word[0..e]),
-        read_exponent(&word[e + 1..]),
-        next,
+        d,
+        u128::from(up),
+        u128::from(down) + places as u128,
     )
 }
 
 // A decimal, with `-` if below zero.
-pub(crate) fn decimal(word: &[u8], next: usize) -> Float
-    ensures { float_read result ≡ going_on (Decimal·decimal word.now) next }
+pub(crate) fn decimal(word: &[u8]) -> Option<f64>
+    ensures { result ≡ Decimal·decimal word.now }
 {
-    if word.len() == 0 {
-        return Float::Malformed;
+    match word {
+        [b'-', size @ ..] => unsigned(true, size),
+        _ => unsigned(false, word),
     }
-    if word[0] == b'-' {
-        return unsigned(true, &word[1..], next);
-    }
-    unsigned(false, word, next)
 }

@@ -7,7 +7,7 @@ mod read;
 mod write;
 
 pub use read::{
-    Byte, Float, Frame, Keyword, Number, Word, ended, first, read_byte, read_float, read_frame,
-    read_keyword, read_number, read_word, same,
+    ended, first, read_byte, read_float, read_frame, read_keyword, read_number, read_word,
+    split_once,
 };
-pub use write::{write_byte, write_bytes, write_float, write_last_digits, write_number};
+pub use write::Writer;

@@ -1,150 +1,74 @@
 // The word that starts at a place of a line, read as a number, a frame, a float or a keyword. The next place is
 // behind the one space after the word, also where the line ends with the word: `ended` then holds. A place where
-// no word starts is malformed.
-ghost use Rattle.std.specs.Prelude.{◌≡◌, ◌+◌, ◌^◌, ◌<◌, ltb, length, drop};
+// no word starts is malformed. A line and a place are two parameters, since a caller may try two forms at one place.
+ghost use Rattle.std.specs.Prelude.{◌≡◌, ◌==◌, ◌+◌, ◌^◌, ◌≤◌, ◌<◌, ltb, length, drop, Some, option_map, position};
 ghost use Rattle.text.specs.Digits.{number_from, below, number_in};
 ghost use Rattle.text.specs.Digits.{digit as Digits·digit};
-ghost use Rattle.text.specs.Decimal.{before};
-ghost use Rattle.text.specs.Reading.{word_at, read_at, going_on, any_word, number, frame, float, keyword, byte_at};
-ghost use Rattle.text.specs.Reading.{same as Reading·same};
-ghost use Rattle.text.specs.Answers.{word_read, number_read, frame_read, float_read, keyword_read, byte_read};
+ghost use Rattle.text.specs.Decimal.{before, behind};
+ghost use Rattle.text.specs.Reading.{read_at, any_word, number, frame, keyword, byte_at};
+ghost use Rattle.text.specs.Reading.{bits as Reading·bits, float as Reading·float};
 
 use super::decimal::decimal;
 
-// The place at which a word ends; the text goes on at the place behind that.
-#[derive(Drop)]
-pub enum Word {
-    Until(usize),
-    Malformed,
-}
-
-// A number, and where the text goes on.
-#[derive(Drop)]
-pub enum Number {
-    Value(u64, usize),
-    Malformed,
-}
-
-// A frame, and where the text goes on.
-#[derive(Drop)]
-pub enum Frame {
-    Value(u32, usize),
-    Malformed,
-}
-
-// A float, and where the text goes on.
-#[derive(Drop)]
-pub enum Float {
-    Value(f64, usize),
-    Malformed,
-}
-
-// A byte by its two digits.
-#[derive(Drop)]
-pub enum Byte {
-    Value(u8),
-    Malformed,
-}
-
-// Where the text goes on behind the keyword, or that another word stands there or none.
-#[derive(Drop)]
-pub enum Keyword {
-    Next(usize),
-    Other,
-}
-
-// A byte as a number.
-fn wide(b: u8) -> u64
-    ensures { result ≡ b }
+// The digit of a base up to 16 that a byte is. (`char::to_digit` would take capital letters too.)
+fn digit(b: u8, base: u64) -> Option<u64>
+    requires { base ≤ 16 }
+    ensures { result ≡ below base (Some (Digits·digit b)) }
 {
-    b as u64
+    let value = match b {
+        b'0'..=b'9' => b - b'0',
+        b'a'..=b'f' => b - b'a' + 10,
+        _ => return None,
+    };
+    Some(u64::from(value)).filter(|d| *d < base)
 }
 
-// A digit's value, and 16 for any other byte.
-fn digit(b: u8) -> u64
-    ensures { result ≡ Digits·digit b }
+// The number that a word's digits are where they follow a number.
+#[tactic(auto, using(crate::proofs::Numbers::number_over))]
+pub(crate) fn digits(word: &[u8], base: u64, number: u64) -> Option<u64>
+    requires { base ≤ 16 }
+    ensures { result ≡ below (2 ^ 64) (number_from base number word.now) }
 {
-    match b {
-        b'0'..=b'9' => wide(b - b'0'),
-        b'a'..=b'f' => wide(b - b'a') + 10,
-        _ => 16,
-    }
-}
-
-// The number that a word's digits are where they follow a number, with the next place.
-pub(crate) fn digits(word: &[u8], base: u64, number: u64, next: usize) -> Number
-    requires { 0 < base }
-    ensures { number_read result ≡ going_on (below (2 ^ 64) (number_from base number word.now)) next }
-{
-    let most = u64::MAX / base;
     let mut value = number;
-    let mut i = 0;
-    while i < word.len() {
-        let d = digit(word[i]);
-        if base <= d {
-            return Number::Malformed; // no digit
-        }
-        if most < value {
-            return Number::Malformed; // the product is too large
-        }
-        let high = value * base;
-        if u64::MAX - high < d {
-            return Number::Malformed; // the sum is too large
-        }
-        value = high + d;
-        i += 1;
+    for b in word {
+        value = value.checked_mul(base)?.checked_add(digit(*b, base)?)?;
     }
-    Number::Value(value, next)
+    Some(value)
 }
 
-// Whether two words are the same bytes.
-pub fn same(a: &[u8], b: &[u8]) -> bool
-    ensures { result ≡ Reading·same a.now b.now }
+// The place of the first byte b.
+fn place(word: &[u8], b: u8) -> Option<usize>
+    ensures { result ≡ position (λ c. c == b) word.now }
 {
-    if a.len() != b.len() {
-        return false;
+    word.iter().position(|c| *c == b)
+}
+
+// What stands before the first byte b, or all, and what stands behind it.
+#[tactic(auto, using(crate::proofs::Before::before_place, crate::proofs::Before::behind_place))]
+pub fn split_once(word: &[u8], b: u8) -> (&[u8], Option<&[u8]>)
+    ensures within { length result.0.now ≤ length word.now }
+    ensures before { result.0.now ≡ before b word.now }
+    ensures behind { option_map (λ r. r.now) result.1 ≡ behind b word.now }
+{
+    match place(word, b) {
+        Some(i) => (&word[..i], Some(&word[i + 1..])),
+        None => (word, None),
     }
-    let mut i = 0;
-    while i < a.len() {
-        if a[i] != b[i] {
-            return false;
-        }
-        i += 1;
-    }
-    true
+}
+
+// What is left of a line from a place on.
+fn rest(line: &[u8], at: usize) -> &[u8]
+    ensures { result.now ≡ drop at line.now }
+{
+    line.get(at..).unwrap_or_default()
 }
 
 // The place of the first byte b from `at` on, or the line's end.
 pub fn first(line: &[u8], at: usize, b: u8) -> usize
     ensures { result ≡ at + length (before b (drop at line.now)) }
 {
-    let mut i = at;
-    while i < line.len() {
-        if line[i] == b {
-            return i;
-        }
-        i += 1;
-    }
-    i
-}
-
-// The place of the first space from `at` on, or the line's end.
-fn word_end(line: &[u8], at: usize) -> usize
-    ensures { result ≡ at + length (word_at line.now at) }
-{
-    first(line, at, b' ')
-}
-
-// A word of digits.
-fn read_digits(line: &[u8], at: usize, base: u64) -> Number
-    requires { 0 < base }
-    ensures { number_read result ≡ read_at (number_in base) line.now at }
-{
-    let end = word_end(line, at);
-    if end == at {
-        return Number::Malformed;
-    }
-    digits(&line[at..end], base, 0, end + 1)
+    let (front, _) = split_once(rest(line, at), b);
+    at + front.len()
 }
 
 // Whether the word before the place was the line's last.
@@ -154,90 +78,78 @@ pub fn ended(line: &[u8], at: usize) -> bool
     line.len() < at
 }
 
-pub fn read_word(line: &[u8], at: usize) -> Word
-    ensures { word_read line.now at result ≡ read_at any_word line.now at }
+#[tactic(auto, using(crate::proofs::Words::read_word_lem))]
+pub fn read_word(line: &[u8], at: usize) -> Option<(&[u8], usize)>
+    ensures { option_map (λ w. (w.0.now, w.1)) result ≡ read_at any_word line.now at }
 {
-    let end = word_end(line, at);
-    if end == at {
-        return Word::Malformed;
+    let (word, _) = split_once(rest(line, at), b' ');
+    if word.is_empty() {
+        return None;
     }
-    Word::Until(end)
+    Some((word, at + word.len() + 1))
 }
 
 // Decimal digits, no sign.
-pub fn read_number(line: &[u8], at: usize) -> Number
-    ensures { number_read result ≡ read_at number line.now at }
+#[tactic(auto, using(crate::proofs::Words::read_in_form))]
+pub fn read_number(line: &[u8], at: usize) -> Option<(u64, usize)>
+    ensures { result ≡ read_at number line.now at }
 {
-    read_digits(line, at, 10)
+    let (word, next) = read_word(line, at)?;
+    Some((digits(word, 10, 0)?, next))
 }
 
-pub fn read_frame(line: &[u8], at: usize) -> Frame
-    ensures { frame_read result ≡ read_at frame line.now at }
+#[tactic(auto, using(crate::proofs::Words::read_frame_lem))]
+pub fn read_frame(line: &[u8], at: usize) -> Option<(u32, usize)>
+    ensures { result ≡ read_at frame line.now at }
 {
-    match read_number(line, at) {
-        Number::Value(n, next) => {
-            if n > 0xffff_ffff {
-                return Frame::Malformed;
-            }
-            Frame::Value(n as u32, next)
-        }
-        Number::Malformed => Frame::Malformed,
-    }
+    let (n, next) = read_number(line, at)?;
+    Some((u32::try_from(n).ok()?, next))
 }
 
-// The 16 hexadecimal digits of a float's bits, lower case, or a decimal.
-fn float_word(word: &[u8], next: usize) -> Float
-    ensures { float_read result ≡ going_on (float word.now) next }
+// The 16 hexadecimal digits of a float's bits, lower case.
+fn bits(word: &[u8]) -> Option<f64>
+    ensures { result ≡ Reading·bits word.now }
 {
     if word.len() != 16 {
-        return decimal(word, next);
+        return None;
     }
-    match digits(word, 16, 0, next) {
-        Number::Value(bits, next) => Float::Value(libm::float::from_bits(bits), next),
-        Number::Malformed => decimal(word, next),
-    }
+    let bits = digits(word, 16, 0)?;
+    Some(libm::float::from_bits(bits))
 }
 
-pub fn read_float(line: &[u8], at: usize) -> Float
-    ensures { float_read result ≡ read_at float line.now at }
+// A float's bits, or a decimal.
+fn float(word: &[u8]) -> Option<f64>
+    ensures { result ≡ Reading·float word.now }
 {
-    let end = word_end(line, at);
-    if end == at {
-        return Float::Malformed;
-    }
-    float_word(&line[at..end], end + 1)
+    bits(word).or_else(|| decimal(word))
 }
 
-pub fn read_keyword(line: &[u8], at: usize, expected: &[u8]) -> Keyword
-    ensures { keyword_read result ≡ read_at (keyword expected.now) line.now at }
+#[tactic(auto, using(crate::proofs::Words::read_in_form))]
+pub fn read_float(line: &[u8], at: usize) -> Option<(f64, usize)>
+    ensures { result ≡ read_at Reading·float line.now at }
 {
-    let end = word_end(line, at);
-    if end == at {
-        return Keyword::Other;
-    }
-    if same(&line[at..end], expected) {
-        return Keyword::Next(end + 1);
-    }
-    Keyword::Other
+    let (word, next) = read_word(line, at)?;
+    Some((float(word)?, next))
+}
+
+// The next place, if the word is the one expected.
+#[tactic(auto, using(crate::proofs::Words::read_in_form, crate::proofs::Equal::equal_same))]
+pub fn read_keyword(line: &[u8], at: usize, expected: &[u8]) -> Option<usize>
+    ensures { result ≡ option_map (λ k. k.1) (read_at (keyword expected.now) line.now at) }
+{
+    let (word, next) = read_word(line, at)?;
+    (word == expected).then_some(next)
 }
 
 // The byte whose two hexadecimal digits, lower case, stand at the place.
-pub fn read_byte(line: &[u8], at: usize) -> Byte
-    ensures { byte_read result ≡ byte_at line.now at }
+#[tactic(auto, using(crate::proofs::Bytes::read_byte_lem))]
+pub fn read_byte(line: &[u8], at: usize) -> Option<u8>
+    ensures { result ≡ byte_at line.now at }
 {
-    if line.len() <= at {
-        return Byte::Malformed;
-    }
-    if line.len() - at < 2 {
-        return Byte::Malformed;
-    }
-    let high = digit(line[at]);
-    let low = digit(line[at + 1]);
-    if 16 <= high {
-        return Byte::Malformed;
-    }
-    if 16 <= low {
-        return Byte::Malformed;
-    }
-    Byte::Value((16 * high + low) as u8)
+    let [high, low, ..] = rest(line, at) else {
+        return None;
+    };
+    let high = digit(*high, 16)?;
+    let low = digit(*low, 16)?;
+    Some((16 * high + low) as u8)
 }

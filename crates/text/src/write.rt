@@ -1,102 +1,103 @@
-// Text written into a lent buffer at a place. The answer is the next place; without room for the whole text
-// nothing is written, and the place itself is the answer.
-ghost use Rattle.std.specs.Prelude.{◌≡◌, ◌+◌, ◌≤◌, ◌<◌, leb};
+// Text written into a lent buffer, each text behind the other.
+ghost use Rattle.std.specs.Prelude.{◌≡◌, ◌+◌, ◌≤◌, ◌<◌, [], ◌∷◌, length};
+ghost use Rattle.std.specs.Option.{SomeIff};
 ghost use Rattle.text.specs.Digits.{digit_character, digits, digit_count};
-ghost use Rattle.text.specs.Writing.{written, number_text, float_text, byte_text};
+ghost use Rattle.text.specs.Writing.{Writes, number_text, float_text, byte_text};
 
-// Whether count bytes from `at` on lie within len.
-fn room(len: usize, at: usize, count: usize) -> bool
-    ensures { result ≡ leb (at + count) len }
-{
-    if len < at {
-        return false;
-    }
-    if len - at < count {
-        return false;
-    }
-    true
+// A lent buffer, and the place in it where the next text begins. A text that has no room is left out whole, and a
+// later, shorter one may still fit. The contract of `write!` says nothing of such a text, so texts are written by these
+// methods and not by `Display`.
+#[derive(Drop)]
+pub struct Writer<'a> {
+    pub out: &'a mut [u8],
+    pub at: usize,
 }
 
 // How many digits n has in base ten.
 fn digit_count(n: u64) -> usize
     ensures { result ≡ digit_count 19 n }
 {
-    let mut k = 1;
-    let mut rest = n;
-    while rest > 9 {
-        rest /= 10;
-        k += 1;
+    if n == 0 {
+        return 1;
     }
-    k
+    n.ilog10() as usize + 1
 }
 
-// The byte of a digit: 48 is `0`, 97 is `a`.
+// The byte of a digit.
 fn digit_character(d: u64) -> u8
     requires { d < 16 }
     ensures { result ≡ digit_character d }
 {
-    if d < 10 { 48 + d as u8 } else { 87 + d as u8 }
+    b"0123456789abcdef"[d as usize]
 }
 
-// The last k digits of n, the last one first.
-fn write_digits(out: &mut [u8], at: usize, n: u64, base: u64, k: usize) -> usize
-    requires { (0 < base) × (base ≤ 16) }
-    ensures { (result, out.new) ≡ written out.old at (digits base k n) }
-{
-    if !room(out.len(), at, k) {
-        return at;
+impl Writer<'_> {
+    // The place behind the next count bytes, if there is room for them.
+    fn room(&self, count: usize) -> Option<usize>
+        ensures { SomeIff result (self.now.at + count ≤ length self.now.out.now) (self.now.at + count) }
+    {
+        self.at
+            .checked_add(count)
+            .filter(|end| *end <= self.out.len())
     }
-    let mut i = k;
-    let mut rest = n;
-    while i > 0 {
-        i -= 1;
-        out[at + i] = digit_character(rest % base);
-        rest /= base;
+
+    // The last k digits of n.
+    #[tactic(auto, using(crate::proofs::Writes::stored, crate::proofs::Stores::length_digits, crate::proofs::Stores::digit_stored, crate::proofs::Stores::digits_stored,),)]
+    fn write_digits(&mut self, n: u64, base: u64, k: usize)
+        requires { (0 < base) × (base ≤ 16) }
+        ensures { Writes self.old self.new (digits base k n ∷ []) }
+    {
+        let Some(end) = self.room(k) else {
+            return;
+        };
+        let mut rest = n;
+        for i in (self.at..end).rev() {
+            self.out[i] = digit_character(rest % base);
+            rest /= base;
+        }
+        self.at = end;
     }
-    at + k
-}
 
-pub fn write_bytes(out: &mut [u8], at: usize, text: &[u8]) -> usize
-    ensures { (result, out.new) ≡ written out.old at text.now }
-{
-    if !room(out.len(), at, text.len()) {
-        return at;
+    #[tactic(auto, using(crate::proofs::Writes::copied))]
+    pub fn write_bytes(&mut self, text: &[u8])
+        ensures { Writes self.old self.new (text.now ∷ []) }
+    {
+        if let Some(end) = self.room(text.len()) {
+            self.out[self.at..end].copy_from_slice(text);
+            self.at = end;
+        }
     }
-    let mut i = 0;
-    while i < text.len() {
-        out[at + i] = text[i];
-        i += 1;
+
+    // Decimal digits with no zero in front.
+    pub fn write_number(&mut self, n: u64)
+        ensures { Writes self.old self.new (number_text n ∷ []) }
+    {
+        self.write_digits(n, 10, digit_count(n));
     }
-    at + text.len()
-}
 
-// Decimal digits with no zero in front.
-pub fn write_number(out: &mut [u8], at: usize, n: u64) -> usize
-    ensures { (result, out.new) ≡ written out.old at (number_text n) }
-{
-    write_digits(out, at, n, 10, digit_count(n))
-}
-
-// The last k decimal digits of n, zeros in front included.
-pub fn write_last_digits(out: &mut [u8], at: usize, n: u64, k: usize) -> usize
-    ensures { (result, out.new) ≡ written out.old at (digits 10 k n) }
-{
-    write_digits(out, at, n, 10, k)
-}
-
-// The 16 hexadecimal digits of the bits, or `nan`.
-pub fn write_float(out: &mut [u8], at: usize, x: f64) -> usize
-    ensures { (result, out.new) ≡ written out.old at (float_text x) }
-{
-    if x != x {
-        return write_bytes(out, at, b"nan");
+    // The last k decimal digits of n, zeros in front included.
+    pub fn write_last_digits(&mut self, n: u64, k: usize)
+        ensures { Writes self.old self.new (digits 10 k n ∷ []) }
+    {
+        self.write_digits(n, 10, k);
     }
-    write_digits(out, at, libm::float::to_bits(x), 16, 16)
-}
 
-// The two hexadecimal digits of a byte.
-pub fn write_byte(out: &mut [u8], at: usize, b: u8) -> usize
-    ensures { (result, out.new) ≡ written out.old at (byte_text b) }
-{
-    write_digits(out, at, b as u64, 16, 2)
+    // The 16 hexadecimal digits of the bits, or `nan`.
+    #[tactic(auto, unfolding(crate::specs::Writing::float_text))]
+    pub fn write_float(&mut self, x: f64)
+        ensures { Writes self.old self.new (float_text x ∷ []) }
+    {
+        if x.is_nan() {
+            self.write_bytes(b"nan");
+        } else {
+            self.write_digits(libm::float::to_bits(x), 16, 16);
+        }
+    }
+
+    // The two hexadecimal digits of a byte.
+    pub fn write_byte(&mut self, b: u8)
+        ensures { Writes self.old self.new (byte_text b ∷ []) }
+    {
+        self.write_digits(u64::from(b), 16, 2);
+    }
 }

@@ -2,11 +2,10 @@
 use Prim.Native.Nat.{ℕ}
 use mathlib.Core.Path.{◌≡◌, refl}
 use mathlib.Core.Bool.{Bool, true, false}
-use native.Mathlib.Omega.{arith}
 use Rattle.time.specs.Reply.{Carried, Reply, answer, refusal, refuse, ◌then◌}
 
 pub refusal_answer : {A : Type 0} {k : ℕ} {c : Carried} {v : A} → refusal k c ≡ answer v → ⊥
-refusal_answer e = let z : ◌≡◌ {A = ℕ} 0 1 = cc e in omega arith
+refusal_answer e = cc e
 
 pub answer_in : {A : Type 0} {v w : A} → answer v ≡ answer w → v ≡ w
 answer_in e = cc e

@@ -3,7 +3,7 @@ use mathlib.Core.Path.{◌≡◌, refl, sym, ap, ◌∙◌, subst}
 use mathlib.Core.Logic.{◌⊎◌, inl, inr}
 use mathlib.Core.Bool.{Bool, true, false, cond, ◌||◌, ◌&&◌}
 use Prim.Native.Nat.{ℕ, zero, suc, ◌+◌, ◌-◌, ◌*◌, ◌/◌, ◌%◌, ◌^◌, ◌≤◌, ◌<◌}
-use native.Mathlib.Nat.{mul_comm, mul_assoc, mul_left_comm, mul-one, one-mul, mul-add, add-mul, mul-pos, zero-lt-suc, lt_irrefl, le_of_eq, le_of_lt, le_trans, lt_of_lt_of_le, mul-le-mul_right, eq-or-lt_of_le, lt_of_le_of_lt, mod-lt, mul_right_comm, suc-mul}
+use native.Mathlib.Nat.{mul_comm, mul_assoc, mul_left_comm, mul-one, one-mul, add-mul, mul-pos, zero-lt-suc, lt_irrefl, le_of_eq, le_of_lt, le_trans, lt_of_lt_of_le, mul-le-mul_right, eq-or-lt_of_le, lt_of_le_of_lt, mod-lt, mul_right_comm, suc-mul}
 use native.Mathlib.Omega.{arith}
 use lib.Dec.{T, lit<, lit≤, ltb, eqb, ltb→lt, eqb→eq, eqb-suc-zero}
 use lib.IntN.{ℤ, pos}
@@ -90,11 +90,8 @@ div_values x y a b p q h =
 abbrev fraction : ℕ → Float
 fraction r = div binary64 (whole r) (whole 1000000000)
 
-small : (r : ℕ) → r < 1000000000 → r ≤ 2 ^ 53
-small r h = omega arith
-
 fraction_is : (r : ℕ) → r < 1000000000 → fraction r ≡ round binary64 false r 1000000000
-fraction_is r h = div_values (whole r) (whole 1000000000) r 1000000000 (whole_value r (small r h)) (whole_value 1000000000 (lit≤ tt)) (zero-lt-suc 999999999)
+fraction_is r h = div_values (whole r) (whole 1000000000) r 1000000000 (whole_value r (omega arith)) (whole_value 1000000000 (lit≤ tt)) (zero-lt-suc 999999999)
 
 one_is : round binary64 false 1 1 ≡ fin false 1 (pos 0)
 unfolding round
@@ -110,10 +107,7 @@ fraction_under : (r : ℕ) → r < 1000000000 → T (le (fraction r) (fin false 
 fraction_under r k =
     subst (λ (x : Float). T (le x (fin false 1 (pos 0)))) (sym (fraction_is r k))
     (subst (λ (x : Float). T (le (round binary64 false r 1000000000) x)) one_is
-    (round_mono binary64 r 1000000000 1 1 (zero-lt-suc 999999999) (zero-lt-suc 0) (fits r k)))
-  where
-    fits : (r : ℕ) → r < 1000000000 → r * 1 ≤ 1 * 1000000000
-    fits r k = omega arith
+    (round_mono binary64 r 1000000000 1 1 (zero-lt-suc 999999999) (zero-lt-suc 0) (omega arith)))
 
 fraction_plain : (r : ℕ) → r < 1000000000 → Plain (fraction r)
 fraction_plain r k = under (fraction r) (fin false 1 (pos 0)) plain (subst (λ (x : Float). Plain x ⊎ (x ≡ inf false)) (sym (fraction_is r k)) (round_plain r 1000000000)) (fraction_under r k)
@@ -143,7 +137,7 @@ seconds_is n h =
     (ap (λ (z : ℕ). (z * den f + num f * den w) * den f) nw ∙ regroup (n / 1000000000) (den w) (den f) (num f))
   where
     regroup : (p u v m : ℕ) → (p * u * v + m * u) * v ≡ (p * v + m) * (u * v)
-    regroup p u v m = simp (mul-add, add-mul, mul_assoc, mul_comm, mul_left_comm) refl
+    regroup p u v m = simp (add-mul, mul_assoc, mul_comm, mul_left_comm) refl
 
 -- p + m / u ≤ q + n / v, where either p = q and m / u ≤ n / v, or p < q and m / u ≤ 1
 same_whole : (p m u n v : ℕ) → m * v ≤ n * u → (p * u + m) * v ≤ (p * v + n) * u
@@ -155,14 +149,12 @@ same_whole p m u n v h =
 
 next_whole : (p q m u n v : ℕ) → p < q → m ≤ u → (p * u + m) * v ≤ (q * v + n) * u
 next_whole p q m u n v h k =
-    let s : p * u + m ≤ q * u = le_trans (sum (p * u) m u k) (le_trans (le_of_eq (sym (suc-mul p u))) (mul-le-mul_right u h)) in
+    let t : p * u + m ≤ p * u + u = omega arith in
+    let s : p * u + m ≤ q * u = le_trans t (le_trans (le_of_eq (sym (suc-mul p u))) (mul-le-mul_right u h)) in
     let a : (p * u + m) * v ≤ q * u * v = mul-le-mul_right v s in
     let b : (q * v + n) * u ≡ q * v * u + n * u = add-mul (q * v) n u in
     let c : q * v * u ≡ q * u * v = mul_right_comm q v u in
     omega arith
-  where
-    sum : (x m u : ℕ) → m ≤ u → x + m ≤ x + u
-    sum x m u k = omega arith
 
 parts : (a b : ℕ) → a ≤ b → ((a / 1000000000 ≡ b / 1000000000) × (a % 1000000000 ≤ b % 1000000000)) ⊎ (a / 1000000000 < b / 1000000000)
 parts a b h =
@@ -172,9 +164,6 @@ parts a b h =
 fractions_le : (a b : ℕ) → a ≤ b → secs_num a * secs_den b ≤ secs_num b * secs_den a
 fractions_le a b h = go (parts a b h)
   where
-    r : ℕ
-    r = a % 1000000000
-
     go : ((a / 1000000000 ≡ b / 1000000000) × (a % 1000000000 ≤ b % 1000000000)) ⊎ (a / 1000000000 < b / 1000000000) → secs_num a * secs_den b ≤ secs_num b * secs_den a
     go (inl (e, l)) =
         let f = fraction (a % 1000000000) in
@@ -201,10 +190,7 @@ greatest = plain
 pub seconds_plain : (n : ℕ) → n < 2 ^ 64 → Plain (as_secs_f64 n)
 seconds_plain n h =
     under (as_secs_f64 n) (as_secs_f64 (2 ^ 64 - 1)) greatest (subst (λ (x : Float). Plain x ⊎ (x ≡ inf false)) (sym (seconds_is n h)) (round_plain (secs_num n) (secs_den n)))
-    (seconds_mono n (2 ^ 64 - 1) (most n h) (lit< tt))
-  where
-    most : (n : ℕ) → n < 2 ^ 64 → n ≤ 2 ^ 64 - 1
-    most n h = omega arith
+    (seconds_mono n (2 ^ 64 - 1) (omega arith) (lit< tt))
 
 -- a nanosecond is more than nothing, and so is every longer difference
 least : 0 < num (as_secs_f64 1)

@@ -38,17 +38,11 @@ ratio_within elapsed span p h k =
     let c : num x * den y ≤ num y * den x = le→cross x y px py (seconds_mono elapsed span h k) in (
       subst (λ (z : Float). T (le zero64 z)) (sym e)
           (subst (λ (z : Float). T (le z (round binary64 false (num x * den y) (num y * den x)))) zero_is
-          (round_mono binary64 0 1 (num x * den y) (num y * den x) (zero-lt-suc 0) b_pos (nothing (num y * den x) (num x * den y)))),
+          (round_mono binary64 0 1 (num x * den y) (num y * den x) (zero-lt-suc 0) b_pos (omega arith))),
       subst (λ (z : Float). T (le z one64)) (sym e)
           (subst (λ (z : Float). T (le (round binary64 false (num x * den y) (num y * den x)) z)) one_is
-          (round_mono binary64 (num x * den y) (num y * den x) 1 1 b_pos (zero-lt-suc 0) (whole_part_lem (num x * den y) (num y * den x) c))),
+          (round_mono binary64 (num x * den y) (num y * den x) 1 1 b_pos (zero-lt-suc 0) (omega arith))),
     )
-  where
-    nothing : (a b : ℕ) → 0 * a ≤ b * 1
-    nothing a b = omega arith
-
-    whole_part_lem : (a b : ℕ) → a ≤ b → a * 1 ≤ 1 * b
-    whole_part_lem a b h = omega arith
 
 pub share_within : ShareWithin
 unfolding share

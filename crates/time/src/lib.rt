@@ -2,5 +2,6 @@
 // instant, in nanoseconds.
 #![tactic(auto)]
 
+pub mod error;
 pub mod stamp;
 pub mod timestamp;

@@ -1,13 +1,11 @@
-// Lending parts of the memory: which part is lent, and the operations that change that.
-ghost use Rattle.std.specs.Prelude.{◌≤◌};
+// The memory that stores and a map file are lent from.
+ghost use Rattle.std.specs.Prelude.{◌≤◌, length, IfSome};
 
-use super::operands::{Age, Three};
-use super::{maps, operands, output, store};
-use buffer::max_age::MaxAge;
-use console::output::Output;
-use registry::answer::Answer;
+use map_loading::error::LoadError;
+use map_loading::load_map;
+use registry::error::RegistryError;
 use registry::layout;
-use text::Number;
+use registry::store::{Store, StoreMut};
 
 // The words of the head of a store of 256 rows.
 pub(crate) const HEAD_WORDS: usize = 1029;
@@ -21,266 +19,184 @@ pub(crate) const FLOATS: usize = 458752;
 // The most bytes of a map file.
 pub(crate) const MAP_BYTES: usize = 65536;
 
-// How many words of each slice are lent, and how many bytes of the map file.
-#[derive(Clone, Copy)]
-pub(crate) struct Lent {
-    head: usize,
-    instants: usize,
-    poses: usize,
-    map: usize,
-}
+// The most bytes of a map file, or of a name, that a line gives.
+const LINE_BYTES: usize = 240;
 
-// Where the answers go on, and what is lent from now on.
+// Three slices and the bytes of a map file, and how much of each is lent.
 #[derive(Drop)]
-pub(crate) struct Reply {
-    pub(crate) at: usize,
-    pub(crate) lent: Lent,
+pub(crate) struct Memory<'a> {
+    head: &'a mut [u64],
+    instants: &'a mut [u64],
+    poses: &'a mut [f64],
+    map: &'a mut [u8],
+    head_lent: usize,
+    instants_lent: usize,
+    poses_lent: usize,
+    map_lent: usize,
+    ghost head_fits: { head_lent ≤ length head.now },
+    ghost instants_fit: { instants_lent ≤ length instants.now },
+    ghost poses_fit: { poses_lent ≤ length poses.now },
+    ghost map_fits: { map_lent ≤ length map.now },
 }
 
-// No answer, and nothing lent.
-pub(crate) fn start() -> Reply {
-    let lent = Lent {
-        head: 0,
-        instants: 0,
-        poses: 0,
-        map: 0,
-    };
-    Reply { at: 0, lent }
-}
-
-// What a store of these sizes is lent, where the sizes are within their limits, else what was lent before.
-fn lent_for(rows: u64, capacity: u64, before: Lent) -> Lent {
-    if rows < 1 {
-        return before;
-    }
-    if 256 < rows {
-        return before;
-    }
-    if capacity < 1 {
-        return before;
-    }
-    if 1024 < capacity {
-        return before;
-    }
-    let rows = rows as usize;
-    let capacity = capacity as usize;
-    Lent {
-        head: layout::head_length(rows),
-        instants: layout::instants_length(rows, capacity),
-        poses: layout::poses_length(rows, capacity),
-        map: before.map,
-    }
-}
-
-// Whether a part is larger than the memory.
-fn beyond(part: Lent, most: Lent) -> bool {
-    (most.head < part.head) | (most.instants < part.instants) | (most.poses < part.poses)
-}
-
-// A number of words that a slice has.
-pub(crate) fn least(n: usize, len: usize) -> usize
-    ensures { result ≤ len }
+// A place or a length that a line gives, if it is at most `most`.
+fn within(n: u64, most: usize) -> Option<usize>
+    ensures { IfSome result (λ k. k ≤ most) }
 {
-    if n < len { n } else { len }
+    usize::try_from(n).ok().filter(|k| *k <= most)
 }
 
-fn refused(out: &mut [u8], to: usize, lent: Lent) -> Reply {
-    let at = output::malformed(out, to);
-    Reply { at, lent }
-}
-
-// A store to open: its sizes, its age and the part that they ask for.
-#[derive(Drop)]
-struct Store {
-    rows: u64,
-    capacity: u64,
-    age: MaxAge,
-    lent: Lent,
-}
-
-#[derive(Drop)]
-enum Opening {
-    Value(Store),
-    Malformed,
-}
-
-// `E S none`, `E S AGE`
-fn read_store(line: &[u8], at: usize, before: Lent, most: Lent) -> Opening {
-    let Number::Value(rows, second) = text::read_number(line, at) else {
-        return Opening::Malformed;
-    };
-    let Number::Value(capacity, third) = text::read_number(line, second) else {
-        return Opening::Malformed;
-    };
-    let Age::Value(age) = operands::last_age(line, third) else {
-        return Opening::Malformed;
-    };
-    let lent = lent_for(rows, capacity, before);
-    if beyond(lent, most) {
-        return Opening::Malformed;
+impl<'a> Memory<'a> {
+    // Nothing is lent at first.
+    pub(crate) fn new(
+        head: &'a mut [u64],
+        instants: &'a mut [u64],
+        poses: &'a mut [f64],
+        map: &'a mut [u8],
+    ) -> Memory<'a> {
+        Memory {
+            head,
+            instants,
+            poses,
+            map,
+            head_lent: 0,
+            instants_lent: 0,
+            poses_lent: 0,
+            map_lent: 0,
+        }
     }
-    Opening::Value(Store {
-        rows,
-        capacity,
-        age,
-        lent,
+
+    // The store in what is lent.
+    pub(crate) fn store(&self) -> Store<'_> {
+        Store {
+            head: &self.head[..self.head_lent],
+            instants: &self.instants[..self.instants_lent],
+            poses: &self.poses[..self.poses_lent],
+        }
+    }
+
+    // What a function of that store answers. A function that answered the store itself would hand out parts of slices that
+    // the facts below are about, which the borrow checker does not cover.
+    pub(crate) fn with_store<T, F: FnOnce(&mut StoreMut<'_>) -> T>(&mut self, f: F) -> T
+        requires { F.IsAlwaysCallable f }
+    {
+        with_store(
+            &mut self.head[..self.head_lent],
+            &mut self.instants[..self.instants_lent],
+            &mut self.poses[..self.poses_lent],
+            f,
+        )
+    }
+
+    // The map file that is lent.
+    pub(crate) fn map(&self) -> &[u8] {
+        &self.map[..self.map_lent]
+    }
+
+    // So much of each slice is lent from now on; None, and nothing changes, where there is not so much.
+    pub(crate) fn lend(&mut self, head: u64, instants: u64, poses: u64) -> Option<()> {
+        let head = within(head, self.head.len())?;
+        let instants = within(instants, self.instants.len())?;
+        let poses = within(poses, self.poses.len())?;
+        self.head_lent = head;
+        self.instants_lent = instants;
+        self.poses_lent = poses;
+        Some(())
+    }
+
+    // Opens a store in the part of each slice that its sizes ask for, which is lent from now on. Sizes out of bounds ask
+    // for what is lent. None, and nothing changes, where there is not so much.
+    pub(crate) fn open(
+        &mut self,
+        rows: u64,
+        samples: u64,
+        max_age: Option<u64>,
+    ) -> Option<Result<(), RegistryError>> {
+        if (1..=256).contains(&rows) && (1..=1024).contains(&samples) {
+            let (e, s) = (rows as usize, samples as usize);
+            self.lend(
+                layout::head_length(e) as u64,
+                layout::instants_length(e, s) as u64,
+                layout::poses_length(e, s) as u64,
+            )?;
+        }
+        Some(self.with_store(|store| store.open(rows, samples, max_age)))
+    }
+
+    // Writes one word or float of what is lent, if it has that place.
+    pub(crate) fn set_head(&mut self, place: u64, word: u64) -> Option<()> {
+        set(&mut self.head[..self.head_lent], place, word)
+    }
+
+    pub(crate) fn set_instants(&mut self, place: u64, word: u64) -> Option<()> {
+        set(&mut self.instants[..self.instants_lent], place, word)
+    }
+
+    pub(crate) fn set_poses(&mut self, place: u64, float: f64) -> Option<()> {
+        set(&mut self.poses[..self.poses_lent], place, float)
+    }
+
+    // No map file is lent from now on.
+    pub(crate) fn clear_map(&mut self) {
+        self.map_lent = 0;
+    }
+
+    // Appends the bytes with these digits to the map file; None, and the file stays as it is, where they are no bytes or
+    // there is no room.
+    pub(crate) fn append_to_map(&mut self, digits: &[u8]) -> Option<()> {
+        let count = put_bytes(digits, &mut self.map[self.map_lent..])?;
+        self.map_lent += count;
+        Some(())
+    }
+
+    // Loads the map file that is lent into the store.
+    pub(crate) fn load(&mut self) -> Result<(), LoadError> {
+        let map = &self.map[..self.map_lent];
+        with_store(
+            &mut self.head[..self.head_lent],
+            &mut self.instants[..self.instants_lent],
+            &mut self.poses[..self.poses_lent],
+            |store| load_map::load_map(store, map),
+        )
+    }
+}
+
+fn with_store<T, F: FnOnce(&mut StoreMut<'_>) -> T>(
+    head: &mut [u64],
+    instants: &mut [u64],
+    poses: &mut [f64],
+    f: F,
+) -> T
+    requires { F.IsAlwaysCallable f }
+{
+    f(&mut StoreMut {
+        head,
+        instants,
+        poses,
     })
 }
 
-// Opens a store in the part that its sizes ask for.
-fn open_in(head: &mut [u64], instants: &mut [u64], poses: &mut [f64], store: Store) -> Answer {
-    let lent = store.lent;
-    let age = store.age;
-    let h = least(lent.head, head.len());
-    let i = least(lent.instants, instants.len());
-    let p = least(lent.poses, poses.len());
-    registry::open::open(
-        &mut head[0..h],
-        &mut instants[0..i],
-        &mut poses[0..p],
-        store.rows,
-        store.capacity,
-        age,
-    )
+// Writes the element at a place, if there is one.
+fn set<T: Copy>(slice: &mut [T], place: u64, element: T) -> Option<()> {
+    let place = usize::try_from(place).ok()?;
+    *slice.get_mut(place)? = element;
+    Some(())
 }
 
-// `open E S none`, `open E S AGE`: the part is lent from then on.
-fn open(
-    line: &[u8],
-    at: usize,
-    head: &mut [u64],
-    instants: &mut [u64],
-    poses: &mut [f64],
-    out: &mut [u8],
-    to: usize,
-    before: Lent,
-    most: Lent,
-) -> Reply {
-    let Opening::Value(store) = read_store(line, at, before, most) else {
-        return refused(out, to, before);
-    };
-    let lent = store.lent;
-    let answer = open_in(head, instants, poses, store);
-    let next = output::of_tree(out, to, answer);
-    Reply { at: next, lent }
-}
-
-#[derive(Drop)]
-enum Lending {
-    Value(Lent),
-    Malformed,
-}
-
-// `H I P`
-fn read_lent(line: &[u8], at: usize, before: Lent, most: Lent) -> Lending {
-    let Three::Value(h, i, p) = operands::last_three(line, at) else {
-        return Lending::Malformed;
-    };
-    if (most.head as u64) < h {
-        return Lending::Malformed;
+// Writes the bytes with these digits, and answers how many there are; None where they are no bytes, are more than a line
+// gives, or have no room.
+pub(crate) fn put_bytes(digits: &[u8], bytes: &mut [u8]) -> Option<usize>
+    ensures { IfSome result (λ n. n ≤ length bytes.old) }
+{
+    if 2 * LINE_BYTES < digits.len() || digits.len() % 2 != 0 {
+        return None;
     }
-    if (most.instants as u64) < i {
-        return Lending::Malformed;
+    let count = digits.len() / 2;
+    if bytes.len() < count {
+        return None;
     }
-    if (most.poses as u64) < p {
-        return Lending::Malformed;
+    for i in 0..count {
+        bytes[i] = text::read_byte(digits, 2 * i)?;
     }
-    Lending::Value(Lent {
-        head: h as usize,
-        instants: i as usize,
-        poses: p as usize,
-        map: before.map,
-    })
-}
-
-// `lend H I P`
-fn lend(line: &[u8], at: usize, out: &mut [u8], to: usize, before: Lent, most: Lent) -> Reply {
-    let Lending::Value(lent) = read_lent(line, at, before, most) else {
-        return refused(out, to, before);
-    };
-    let next = output::done(out, to);
-    Reply { at: next, lent }
-}
-
-// `map none`, `map HEX`
-fn lend_map(
-    line: &[u8],
-    at: usize,
-    map: &mut [u8],
-    out: &mut [u8],
-    to: usize,
-    before: Lent,
-) -> Reply {
-    let file = maps::lend(line, at, map, before.map, out, to);
-    Reply {
-        at: file.at,
-        lent: Lent {
-            head: before.head,
-            instants: before.instants,
-            poses: before.poses,
-            map: file.used,
-        },
-    }
-}
-
-// The answer to a line that changes nothing of what is lent. What is lent is within the memory.
-fn answer_lent(
-    rt: &impl Output,
-    line: &[u8],
-    head: &mut [u64],
-    instants: &mut [u64],
-    poses: &mut [f64],
-    map: &[u8],
-    out: &mut [u8],
-    to: usize,
-    lent: Lent,
-) -> usize {
-    let h = least(lent.head, head.len());
-    let i = least(lent.instants, instants.len());
-    let p = least(lent.poses, poses.len());
-    let m = least(lent.map, map.len());
-    store::answer(
-        rt,
-        line,
-        &mut head[0..h],
-        &mut instants[0..i],
-        &mut poses[0..p],
-        &map[0..m],
-        out,
-        to,
-    )
-}
-
-// The answer to a line, with no line end behind it.
-pub(crate) fn answer(
-    rt: &impl Output,
-    line: &[u8],
-    head: &mut [u64],
-    instants: &mut [u64],
-    poses: &mut [f64],
-    map: &mut [u8],
-    out: &mut [u8],
-    to: usize,
-    lent: Lent,
-) -> Reply {
-    let most = Lent {
-        head: head.len(),
-        instants: instants.len(),
-        poses: poses.len(),
-        map: map.len(),
-    };
-    let opened = operands::behind(line, 0, b"open");
-    if opened > 0 {
-        return open(line, opened, head, instants, poses, out, to, lent, most);
-    }
-    let lending = operands::behind(line, 0, b"lend");
-    if lending > 0 {
-        return lend(line, lending, out, to, lent, most);
-    }
-    let file = operands::behind(line, 0, b"map");
-    if file > 0 {
-        return lend_map(line, file, map, out, to, lent);
-    }
-    let at = answer_lent(rt, line, head, instants, poses, map, out, to, lent);
-    Reply { at, lent }
+    Some(count)
 }

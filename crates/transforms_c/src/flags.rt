@@ -1,25 +1,21 @@
 // Flags from C: 0 is no, anything else yes.
 ghost use Rattle.std.specs.Prelude.{◌≡◌};
-ghost use Rattle.buffer.specs.Answers.{age_of};
 ghost use Rattle.transforms_c.specs.Flags.{age_of_flag, stamp_of_flag};
 
-use buffer::max_age::MaxAge;
 use time::stamp::Stamp;
 
-pub(crate) fn max_age(has_max_age: u32, nanos: u64) -> MaxAge
-    ensures { age_of result ≡ age_of_flag has_max_age nanos }
+pub(crate) fn max_age(has_max_age: u32, nanos: u64) -> Option<u64>
+    ensures { result ≡ age_of_flag has_max_age nanos }
 {
-    if has_max_age == 0 {
-        return MaxAge::Unlimited;
-    }
-    MaxAge::Nanos(nanos)
+    (has_max_age != 0).then_some(nanos)
 }
 
 pub(crate) fn stamp(is_static: u32, instant: u64) -> Stamp
     ensures { result ≡ stamp_of_flag is_static instant }
 {
     if is_static == 0 {
-        return Stamp::At(instant);
+        Stamp::At(instant)
+    } else {
+        Stamp::Static
     }
-    Stamp::Static
 }

@@ -1,19 +1,19 @@
-// The replies of the calls and of the pose operations as one struct, filled by what they carry.
+// What C is told of the results of the calls and of the pose operations: one struct, filled by what they carry.
 ghost use Rattle.std.specs.Prelude.{◌≡◌};
 ghost use Rattle.time.specs.Reply.{refusal};
-ghost use Rattle.geometry.specs.Answers.{reply_of as poseReply};
-ghost use Rattle.registry.specs.Answers.{range_of, reply_of, carried_by, replied};
-ghost use Rattle.map_file.specs.Answers.{number_of, part_read};
-ghost use Rattle.map_loading.specs.Loading.{record_of, load_reply};
-ghost use Rattle.transforms_c.specs.Flat.{plain, posed, any_instant, at_instant, normed, framed, ranged, flat, flat_pose, of_record, flat_load, flat_frame, flat_name};
+ghost use Rattle.registry.specs.Answers.{refusal_of};
+ghost use Rattle.transforms_c.specs.Flat.{plain, posed, any_instant, at_instant, normed, framed, ranged, flat, of_record};
 
 use super::answer::{Answer, FrameAnswer, NameAnswer};
+use geometry::error::TransformError;
 use geometry::isometry::Isometry;
-use geometry::transform;
-use map_file::book::{Named, Numbered};
-use map_loading::answer::Loaded;
-use registry::answer;
-use registry::answer::{Carried, Covered, Reply};
+use map_file::form::FormError;
+use map_file::record::Name;
+use map_loading::error::LoadError;
+use registry::error::{Carried, Covered, RegistryError};
+use time::stamp::Stamp;
+
+// Each fills the constant field by field: a struct written out whole is slower.
 
 // A number that carries nothing.
 fn plain(number: u32) -> Answer
@@ -68,9 +68,9 @@ fn framed(number: u32, frame: u32) -> Answer
 
 // A hop's child, and its range if it has one.
 fn ranged(number: u32, frame: u32, covered: Covered) -> Answer
-    ensures { result ≡ ranged number frame (range_of covered) }
+    ensures { result ≡ ranged number frame covered }
 {
-    let Covered::Range { start, end } = covered else {
+    let Some((start, end)) = covered else {
         return framed(number, frame);
     };
     let mut r = Answer::DONE;
@@ -83,42 +83,16 @@ fn ranged(number: u32, frame: u32, covered: Covered) -> Answer
 }
 
 // A refusal, by what it carries.
-fn refused(number: u32, carried: Carried) -> Answer
-    ensures { result ≡ flat (refusal number (carried_by carried)) }
+fn refused(error: RegistryError) -> Answer
+    ensures { result ≡ flat (refusal (refusal_of error).0 (refusal_of error).1) }
 {
-    match carried {
+    let number = error.number();
+    match error.carried() {
         Carried::Nothing => plain(number),
         Carried::Norm(norm) => normed(number, norm),
         Carried::Frame(frame) => framed(number, frame),
         Carried::Hop(child, covered) => ranged(number, child, covered),
     }
-}
-
-// The struct of a reply.
-fn filled(reply: Reply) -> Answer
-    ensures { result ≡ flat (replied reply) }
-{
-    match reply {
-        Reply::Done => plain(0),
-        Reply::Pose(pose) => posed(pose),
-        Reply::Static => any_instant(),
-        Reply::At(instant) => at_instant(instant),
-        Reply::Refusal(number, carried) => refused(number, carried),
-    }
-}
-
-// Of a call on a store.
-pub(crate) fn flat(a: answer::Answer) -> Answer
-    ensures { result ≡ flat (reply_of a) }
-{
-    filled(Reply::of_tree(a))
-}
-
-// Of an operation on poses.
-pub(crate) fn flat_pose(a: transform::Answer) -> Answer
-    ensures { result ≡ flat_pose (poseReply a) }
-{
-    filled(Reply::of_pose(a))
 }
 
 // A record's refusal.
@@ -127,73 +101,150 @@ fn of_record(n: u32, refused: Answer) -> Answer
 {
     let mut r = refused;
     r.is_record = 1;
-    r.index = n as u64;
+    r.index = u64::from(n);
     r
-}
-
-// Of a load.
-pub(crate) fn flat_load(loaded: Loaded) -> Answer
-    ensures { result ≡ flat_load (record_of loaded) (load_reply loaded) }
-{
-    let Loaded::Record(n, refused) = loaded else {
-        return flat(loaded.answer());
-    };
-    of_record(n, flat(refused))
 }
 
 // The number of the refusal of a file of wrong form.
 fn map_form() -> u32
     ensures { result ≡ 18 }
 {
-    let refused = flat(answer::Answer::MapForm);
-    refused.number
+    LoadError::MapForm.number()
 }
 
-// Of the book, for a name.
-pub(crate) fn flat_frame(numbered: Numbered) -> FrameAnswer
-    ensures { result ≡ flat_frame (number_of numbered) }
-{
-    match numbered {
-        Numbered::Frame(frame) => FrameAnswer {
-            number: 0,
-            is_known: 1,
-            frame,
-        },
-        Numbered::Nothing => FrameAnswer {
-            number: 0,
-            is_known: 0,
-            frame: 0,
-        },
-        Numbered::MapForm => FrameAnswer {
-            number: map_form(),
-            is_known: 0,
-            frame: 0,
-        },
+// Of a call that writes.
+impl From<Result<(), RegistryError>> for Answer {
+    ghost use Rattle.registry.specs.Answers.{replied, told_done};
+
+    ghost from_gives = { λ done answer. answer ≡ flat (replied told_done done) };
+
+    fn from(done: Result<(), RegistryError>) -> Answer {
+        match done {
+            Ok(()) => plain(0),
+            Err(error) => refused(error),
+        }
     }
 }
 
-// Of the book, for a number.
-pub(crate) fn flat_name(named: Named) -> NameAnswer
-    ensures { result ≡ flat_name (part_read named) }
-{
-    match named {
-        Named::Part(start, count) => NameAnswer {
-            number: 0,
-            is_known: 1,
-            start,
-            count,
-        },
-        Named::Nothing => NameAnswer {
-            number: 0,
-            is_known: 0,
-            start: 0,
-            count: 0,
-        },
-        Named::MapForm => NameAnswer {
-            number: map_form(),
-            is_known: 0,
-            start: 0,
-            count: 0,
-        },
+// Of a lookup.
+impl From<Result<Isometry, RegistryError>> for Answer {
+    ghost use Rattle.registry.specs.Answers.{replied, pose};
+
+    ghost from_gives = { λ found answer. answer ≡ flat (replied pose found) };
+
+    fn from(found: Result<Isometry, RegistryError>) -> Answer {
+        match found {
+            Ok(pose) => posed(pose),
+            Err(error) => refused(error),
+        }
+    }
+}
+
+// Of a latest common time.
+impl From<Result<Stamp, RegistryError>> for Answer {
+    ghost use Rattle.registry.specs.Answers.{replied, told_time};
+
+    ghost from_gives = { λ time answer. answer ≡ flat (replied told_time time) };
+
+    fn from(time: Result<Stamp, RegistryError>) -> Answer {
+        match time {
+            Ok(Stamp::Static) => any_instant(),
+            Ok(Stamp::At(instant)) => at_instant(instant),
+            Err(error) => refused(error),
+        }
+    }
+}
+
+// Of an operation on poses.
+impl From<Result<Isometry, TransformError>> for Answer {
+    ghost use Rattle.time.specs.Reply.{reply_by};
+    ghost use Rattle.geometry.specs.Answers.{refusal_of as transform_refusal_of};
+    ghost use Rattle.transforms_c.specs.Flat.{flat_pose};
+
+    ghost from_gives = { λ moved answer. answer ≡ flat_pose (reply_by transform_refusal_of moved) };
+
+    fn from(moved: Result<Isometry, TransformError>) -> Answer {
+        match moved {
+            Ok(pose) => posed(pose),
+            Err(error) => refused(RegistryError::from(error)),
+        }
+    }
+}
+
+// Of a load.
+impl From<Result<(), LoadError>> for Answer {
+    ghost use Rattle.map_loading.specs.Loading.{record_of, load_reply};
+    ghost use Rattle.transforms_c.specs.Flat.{flat_load};
+
+    ghost from_gives = { λ loaded answer. answer ≡ flat_load (record_of loaded) (load_reply loaded) };
+
+    fn from(loaded: Result<(), LoadError>) -> Answer {
+        match loaded {
+            Ok(()) => plain(0),
+            Err(LoadError::Store(error)) => refused(error),
+            Err(LoadError::Record(n, error)) => of_record(n, refused(error)),
+            Err(LoadError::StoreInUse) => plain(LoadError::StoreInUse.number()),
+            Err(LoadError::MapForm) => plain(map_form()),
+        }
+    }
+}
+
+// Of the book of a map's names, for a name.
+impl From<Result<Option<u32>, FormError>> for FrameAnswer {
+    ghost use Rattle.time.specs.Reply.{reply_by};
+    ghost use Rattle.map_file.specs.Answers.{refusal_of as form_refusal_of};
+    ghost use Rattle.transforms_c.specs.Flat.{flat_frame};
+
+    ghost from_gives = { λ numbered answer. answer ≡ flat_frame (reply_by form_refusal_of numbered) };
+
+    fn from(numbered: Result<Option<u32>, FormError>) -> FrameAnswer {
+        match numbered {
+            Ok(Some(frame)) => FrameAnswer {
+                number: 0,
+                is_known: 1,
+                frame,
+            },
+            Ok(None) => FrameAnswer {
+                number: 0,
+                is_known: 0,
+                frame: 0,
+            },
+            Err(_) => FrameAnswer {
+                number: map_form(),
+                is_known: 0,
+                frame: 0,
+            },
+        }
+    }
+}
+
+// .. and for a number.
+impl From<Result<Option<Name<'_>>, FormError>> for NameAnswer {
+    ghost use Rattle.map_file.specs.Answers.{part_read};
+    ghost use Rattle.transforms_c.specs.Flat.{flat_name};
+
+    ghost from_gives = { λ named answer. answer ≡ flat_name (part_read named) };
+
+    fn from(named: Result<Option<Name<'_>>, FormError>) -> NameAnswer {
+        match named {
+            Ok(Some(name)) => NameAnswer {
+                number: 0,
+                is_known: 1,
+                start: name.start,
+                count: name.bytes.len(),
+            },
+            Ok(None) => NameAnswer {
+                number: 0,
+                is_known: 0,
+                start: 0,
+                count: 0,
+            },
+            Err(_) => NameAnswer {
+                number: map_form(),
+                is_known: 0,
+                start: 0,
+                count: 0,
+            },
+        }
     }
 }

@@ -1,5 +1,5 @@
 // The lengths of the three slices for E rows of S samples; 0 where E or S is out of bounds.
-ghost use Rattle.std.specs.Prelude.{◌≡◌};
+ghost use Rattle.std.specs.Prelude.{◌≡◌, ◌&&◌};
 ghost use Rattle.transforms_c.specs.Lengths.{rows_fit, capacity_fits, head_len, instants_len, poses_len};
 
 use registry::layout;
@@ -7,19 +7,19 @@ use registry::layout;
 fn rows_fit(rows: u64) -> bool
     ensures { result ≡ rows_fit rows }
 {
-    if rows < 1 {
-        return false;
-    }
-    rows <= 256
+    (1..=256).contains(&rows)
 }
 
 fn samples_fit(samples: u64) -> bool
     ensures { result ≡ capacity_fits samples }
 {
-    if samples < 1 {
-        return false;
-    }
-    samples <= 1024
+    (1..=1024).contains(&samples)
+}
+
+fn sizes_fit(rows: u64, samples: u64) -> bool
+    ensures { result ≡ (rows_fit rows && capacity_fits samples) }
+{
+    rows_fit(rows) && samples_fit(samples)
 }
 
 #[unsafe(no_mangle)]
@@ -36,10 +36,7 @@ pub extern "C" fn transforms_head_len(rows: u64) -> usize
 pub extern "C" fn transforms_instants_len(rows: u64, samples: u64) -> usize
     ensures { result ≡ instants_len rows samples }
 {
-    if !rows_fit(rows) {
-        return 0;
-    }
-    if !samples_fit(samples) {
+    if !sizes_fit(rows, samples) {
         return 0;
     }
     layout::instants_length(rows as usize, samples as usize)
@@ -49,10 +46,7 @@ pub extern "C" fn transforms_instants_len(rows: u64, samples: u64) -> usize
 pub extern "C" fn transforms_poses_len(rows: u64, samples: u64) -> usize
     ensures { result ≡ poses_len rows samples }
 {
-    if !rows_fit(rows) {
-        return 0;
-    }
-    if !samples_fit(samples) {
+    if !sizes_fit(rows, samples) {
         return 0;
     }
     layout::poses_length(rows as usize, samples as usize)

@@ -6,9 +6,9 @@ ghost use Rattle.map_loading.specs.Loading.{load_of};
 ghost use Rattle.transforms_c.specs.Flat.{returned, flat_loading, flat_frame, flat_name};
 
 use super::answer::{Answer, FrameAnswer, NameAnswer};
-use super::flat;
 use map_file::book;
 use map_loading::load_map;
+use registry::store::StoreMut;
 
 #[unsafe(no_mangle)]
 pub extern "C" fn transforms_load_map(
@@ -20,19 +20,24 @@ pub extern "C" fn transforms_load_map(
     ensures { returned result head.new instants.new poses.new
         ≡ flat_loading (load_of (store_of head.old instants.old poses.old) map.now) }
 {
-    flat::flat_load(load_map::load_map(head, instants, poses, map))
+    let mut store = StoreMut {
+        head,
+        instants,
+        poses,
+    };
+    Answer::from(load_map::load_map(&mut store, map))
 }
 
 #[unsafe(no_mangle)]
 pub extern "C" fn transforms_map_frame(map: &[u8], name: &[u8]) -> FrameAnswer
     ensures { result ≡ flat_frame (frame_in map.now name.now) }
 {
-    flat::flat_frame(book::frame_of(map, name))
+    FrameAnswer::from(book::frame_of(map, name))
 }
 
 #[unsafe(no_mangle)]
 pub extern "C" fn transforms_map_name(map: &[u8], frame: u32) -> NameAnswer
     ensures { result ≡ flat_name (part_in map.now frame) }
 {
-    flat::flat_name(book::name_of(map, frame))
+    NameAnswer::from(book::name_of(map, frame))
 }

@@ -5,7 +5,6 @@ ghost use Rattle.geometry.specs.Transform.{validate};
 ghost use Rattle.transforms_c.specs.Flat.{flat_pose};
 
 use super::answer::Answer;
-use super::flat;
 use geometry::isometry::Isometry;
 use geometry::transform;
 
@@ -13,14 +12,14 @@ use geometry::transform;
 pub extern "C" fn transforms_mul(a: Isometry, b: Isometry) -> Answer
     ensures { result ≡ flat_pose (mul a b) }
 {
-    flat::flat_pose(a.mul(b))
+    Answer::from(a.mul(b))
 }
 
 #[unsafe(no_mangle)]
 pub extern "C" fn transforms_inverse(pose: Isometry) -> Answer
     ensures { result ≡ flat_pose (inverse pose) }
 {
-    flat::flat_pose(pose.inverse())
+    Answer::from(pose.inverse())
 }
 
 #[unsafe(no_mangle)]
@@ -33,12 +32,12 @@ pub extern "C" fn transforms_interpolate(
 ) -> Answer
     ensures { result ≡ flat_pose (interpolate a b start end query) }
 {
-    flat::flat_pose(a.interpolate(b, start, end, query))
+    Answer::from(a.interpolate(b, start, end, query))
 }
 
 #[unsafe(no_mangle)]
 pub extern "C" fn transforms_validate(pose: Isometry) -> Answer
     ensures { result ≡ flat_pose (validate pose) }
 {
-    flat::flat_pose(transform::validate(pose))
+    Answer::from(transform::validate(pose))
 }

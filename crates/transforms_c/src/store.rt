@@ -5,9 +5,9 @@ ghost use Rattle.transforms_c.specs.Flags.{age_of_flag, stamp_of_flag};
 ghost use Rattle.transforms_c.specs.Flat.{flat, returned, flat_outcome};
 
 use super::answer::Answer;
-use super::{flags, flat};
+use super::flags;
 use geometry::isometry::Isometry;
-use registry::{add, get_transform, latest_common_time, open, remove_before};
+use registry::store::{Store, StoreMut};
 
 #[unsafe(no_mangle)]
 pub extern "C" fn transforms_open(
@@ -23,7 +23,12 @@ pub extern "C" fn transforms_open(
         ≡ flat_outcome (open_of (store_of head.old instants.old poses.old) (record { rows = rows; capacity = samples; age = age_of_flag has_max_age max_age })) }
 {
     let age = flags::max_age(has_max_age, max_age);
-    flat::flat(open::open(head, instants, poses, rows, samples, age))
+    let mut store = StoreMut {
+        head,
+        instants,
+        poses,
+    };
+    Answer::from(store.open(rows, samples, age))
 }
 
 #[unsafe(no_mangle)]
@@ -41,7 +46,12 @@ pub extern "C" fn transforms_add_transform(
         ≡ flat_outcome (add_of (store_of head.old instants.old poses.old) (record { child = child; parent = parent; stamp = stamp_of_flag is_static instant; pose = pose })) }
 {
     let stamp = flags::stamp(is_static, instant);
-    flat::flat(add::add_transform(head, instants, poses, child, parent, stamp, pose))
+    let mut store = StoreMut {
+        head,
+        instants,
+        poses,
+    };
+    Answer::from(store.add_transform(child, parent, stamp, pose))
 }
 
 #[unsafe(no_mangle)]
@@ -55,7 +65,8 @@ pub extern "C" fn transforms_get_transform(
 ) -> Answer
     ensures { result ≡ flat (lookup_of (store_of head.now instants.now poses.now) target source instant) }
 {
-    flat::flat(get_transform::get_transform(head, instants, poses, target, source, instant))
+    let store = Store::new(head, instants, poses);
+    Answer::from(store.get_transform(target, source, instant))
 }
 
 #[unsafe(no_mangle)]
@@ -68,7 +79,8 @@ pub extern "C" fn transforms_latest_common_time(
 ) -> Answer
     ensures { result ≡ flat (common_time_of (store_of head.now instants.now poses.now) target source) }
 {
-    flat::flat(latest_common_time::latest_common_time(head, instants, poses, target, source))
+    let store = Store::new(head, instants, poses);
+    Answer::from(store.latest_common_time(target, source))
 }
 
 #[unsafe(no_mangle)]
@@ -82,5 +94,10 @@ pub extern "C" fn transforms_remove_before(
     ensures { returned result head.new instants.new poses.new
         ≡ flat_outcome (wipe_of (store_of head.old instants.old poses.old) child instant) }
 {
-    flat::flat(remove_before::remove_before(head, instants, poses, child, instant))
+    let mut store = StoreMut {
+        head,
+        instants,
+        poses,
+    };
+    Answer::from(store.remove_before(child, instant))
 }

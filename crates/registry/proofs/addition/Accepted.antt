@@ -16,7 +16,8 @@ use Rattle.buffer.specs.Map.{all, get, put}
 use Rattle.buffer.proofs.Cases.{false_true}
 use Rattle.buffer.proofs.Maps.{Rising, length_put_new, length_put_held}
 use Rattle.buffer.proofs.Alls.{all_put}
-use Rattle.registry.specs.Tree.{Edge, Tree, Limits, Addition, kind_of, is_absent, ancestors, member, same_kind, other_parent, current_parent, other_kind, updated_edge, add_to, add}
+use Rattle.buffer.specs.Kind.{kind_of}
+use Rattle.registry.specs.Tree.{Edge, Tree, Limits, Addition, is_absent, ancestors, member, same_kind, other_parent, current_parent, other_kind, updated_edge, add_to, add}
 use Rattle.registry.proofs.layout.StoreBack.{Fits}
 
 -- ---- what the refusals 6 and 8 leave

@@ -8,7 +8,7 @@ use lib.Dec.{ltb}
 use lib.ListN.{length}
 use borrow.Author.Tests.{le-ltb}
 use Rattle.time.specs.declared.stamp.Stamp.{Stamp}
-use Rattle.time.specs.Reply.{Reply, answer, nothing, refuse}
+use Rattle.time.specs.Reply.{Reply, Carried, answer, refusal, nothing, refuse}
 use Rattle.geometry.specs.declared.isometry.Isometry.{Isometry}
 use Rattle.buffer.specs.declared.kind.Kind.{Kind}
 use Rattle.buffer.specs.Map.{get, put}
@@ -16,15 +16,14 @@ use Rattle.buffer.specs.Samples.{insert}
 use Rattle.buffer.specs.Row.{FloatsFit}
 use Rattle.buffer.proofs.Maps.{put_again}
 use Rattle.buffer.proofs.SampleLaws.{insert_empty}
-use Rattle.registry.specs.declared.answer.Answer.{Answer}
-use Rattle.registry.specs.Tree.{Edge, Tree, Limits, Addition, addition, kind_of, instant_of, updated_edge, add}
+use Rattle.buffer.specs.Kind.{kind_of}
+use Rattle.registry.specs.Tree.{Edge, Tree, Limits, Addition, addition, instant_of, updated_edge, add}
 use Rattle.registry.specs.Store.{Store, rows_in, capacity_in, used_in, limits_of, edge_at, tree_of, stored}
 use Rattle.registry.specs.Sound.{SoundStore}
-use Rattle.registry.specs.Answers.{done, reply_of}
-use Rattle.registry.specs.Calls.{outcome, written}
+use Rattle.registry.specs.Answers.{done}
+use Rattle.registry.specs.Calls.{written}
 use Rattle.registry.specs.layout.Rows.{IsRow, AbsentAt, empty_row, with_row, put_into}
 use Rattle.registry.specs.addition.Adding.{admits}
-use Rattle.registry.specs.declared.answer.Answer.TheVariants as enum
 use Rattle.registry.proofs.layout.SizeLaws.{sized_is}
 use Rattle.registry.proofs.layout.TreeRows.{get_found, get_absent}
 use Rattle.registry.proofs.layout.NewRow.{blank_edge, with_empty, row_stored, empty_limits, empty_tree, empty_row_lem}
@@ -42,11 +41,9 @@ module _ (L : Limits) (t : Tree) (a : Addition) (held : Option Edge) (q : get t 
   unfolding add admits
   add_is = rw q
 
-  pub refused_written : (s : Store) (r : Answer) → (r ≡ enum.Done → ⊥) → reply_of r ≡ admits L t a held (answer done)
-      → outcome (reply_of r) s.head s.instants s.poses ≡ written s L (add L t a)
-  refused_written s r h d =
-      let z = failed (admits_decides L t a held (after L t a held)) r h d in
-      (λ j. outcome (z.2 j) s.head s.instants s.poses) ∙ sym (ap (written s L) (add_is ∙ z.3))
+  pub refused_written : (s : Store) {k : ℕ} {c : Carried} → refusal k c ≡ admits L t a held (answer done)
+      → record { reply = refusal k c; store = s } ≡ written s L (add L t a)
+  refused_written s d = ap (written s L) (failed (admits_decides L t a held (after L t a held)) d ∙ sym add_is)
 
   add_after : answer done ≡ admits L t a held (answer done) → add L t a ≡ after L t a held
   add_after d = add_is ∙ passed (admits_decides L t a held (after L t a held)) d

@@ -1,62 +1,27 @@
 -- The tests of an addition before 17: one of them refuses, or what follows them decides.
 use Prim.Native.Nat.{ℕ, ◌<◌}
-use mathlib.Core.Path.{◌≡◌, refl, sym, ap, ◌∙◌}
+use mathlib.Core.Path.{◌≡◌, refl, sym, ap, ap₂, ◌∙◌}
 use mathlib.Core.Bool.{Bool, true, false, not, ◌&&◌}
 use Rattle.std.specs.Prelude.{Option, None, Some}
 use native.Mathlib.Omega.{arith}
 use lib.Dec.{eqb, leb}
-use lib.Ieee.{Float, lt}
 use lib.ListN.{length}
 use borrow.Author.Tests.{leb-false}
-use Rattle.time.specs.Float.{◌⊖◌, one64, abs}
-use Rattle.time.specs.Reply.{Reply, Carried, answer, refusal, nothing, norm, frame, refuse, ◌then◌}
+use Rattle.time.specs.Reply.{Reply, Carried, answer, refusal, nothing, frame, refuse, ◌then◌}
 use Rattle.time.proofs.Replies.{refusal_answer}
 use Rattle.time.specs.declared.stamp.Stamp.{Stamp}
 use Rattle.geometry.specs.declared.isometry.Isometry.{Isometry}
-use Rattle.geometry.specs.declared.transform.Answer as geometry
-use Rattle.geometry.specs.declared.transform.Answer.TheVariants as transform
-use Rattle.geometry.specs.Vector3 as vector
-use Rattle.geometry.specs.Quaternion as quaternion
-use Rattle.geometry.specs.Transform.{tolerance, validate}
-use Rattle.geometry.specs.Answers as poses
-use Rattle.registry.specs.declared.answer.Answer.{Answer}
-use Rattle.registry.specs.declared.answer.Answer.TheVariants as enum
-use Rattle.registry.specs.Tree.{Edge, Tree, Limits, Addition, addition, is_absent, ancestors, member, same_kind, kind_of, other_parent, current_parent, other_kind}
-use Rattle.registry.specs.Answers.{Value, done, reply_of}
+use Rattle.geometry.specs.Transform.{validate}
+use denote.Enum.Bare.{sameb}
+use Rattle.buffer.specs.contracts.kind.Kind.{the_type}
+use Rattle.buffer.specs.declared.kind.Kind.{Kind}
+use Rattle.buffer.specs.declared.kind.Kind.TheVariants.{Static, Dynamic}
+use Rattle.buffer.specs.Kind.{kind_of}
+use Rattle.registry.specs.Tree.{Edge, Tree, Limits, Addition, addition, is_absent, ancestors, member, same_kind, other_parent, current_parent, other_kind}
+use Rattle.registry.specs.Answers.{Value, done}
 use Rattle.registry.specs.Store.{Store, rows_in, used_in, limits_of, tree_of}
 use Rattle.registry.specs.addition.Adding.{pose_tests, admits}
-use Rattle.registry.proofs.ReplyInjective.{reply_injective}
 use Rattle.registry.proofs.layout.TreeRows.{length_tree}
-
--- ---- 3 and 4
-
--- of the refusals without data `validate` gives 3 alone
-refuses_three : (a b : Bool) (n : Float) (p : Isometry) (k : ℕ) → refusal k nothing ≡ refuse a 3 nothing (refuse b 4 (norm n) (answer p)) → k ≡ 3
-refuses_three true b n p k e = cc e
-refuses_three false true n p k e = let z : ◌≡◌ {A = ℕ} 0 1 = cc e in absurd (omega arith)
-refuses_three false false n p k e = absurd (refusal_answer e)
-
-validate_three : (p : Isometry) (k : ℕ) → refusal k nothing ≡ validate p → k ≡ 3
-unfolding validate
-validate_three p k e =
-    let n = quaternion.norm p.rotation in
-    refuses_three (not (vector.is_finite p.translation && quaternion.is_finite p.rotation)) (lt tolerance (abs (n ⊖ one64))) n p k e
-
--- what is neither a pose nor 4
-pub validate_left : (a : geometry.Answer) (p : Isometry) → ((q : Isometry) → a ≡ transform.Pose q → ⊥) → ((n : Float) → a ≡ transform.NonUnitRotation n → ⊥) → poses.reply_of a ≡ validate p → refusal 3 nothing ≡ validate p
-validate_left (transform.Pose q) p h g e = absurd (h q refl)
-validate_left transform.NonFiniteValues p h g e = e
-validate_left (transform.NonUnitRotation n) p h g e = absurd (g n refl)
-validate_left transform.NonFinite p h g e = absurd (let z = validate_three p 13 e in omega arith)
-validate_left transform.ZeroLengthNormalization p h g e = absurd (let z = validate_three p 14 e in omega arith)
-validate_left transform.DurationUnderflow p h g e = absurd (let z = validate_three p 15 e in omega arith)
-
-module _ {A : Type 0} (child parent : ℕ) (p : Isometry) (next : Reply A) where
-  pub pose_tests_refused : (k : ℕ) (c : Carried) → refusal k c ≡ validate p → refusal k c ≡ pose_tests child parent p next
-  pose_tests_refused k c e = rw (← e)
-
-  pub pose_tests_passed : (q : Isometry) → answer q ≡ validate p → refuse (eqb parent child) 5 nothing next ≡ pose_tests child parent p next
-  pose_tests_passed q e = rw (← e)
 
 -- ---- tests in a row: all pass, or one refuses whatever follows
 
@@ -96,24 +61,33 @@ module _ {A : Type 0} where
 
 -- ---- what an answer to the tests says of the whole
 
--- an answer that is not `Done` is not done
-pub not_done : (r : Answer) → (r ≡ enum.Done → ⊥) → reply_of r ≡ answer done → ⊥
-not_done r h e = h (reply_injective r enum.Done e)
-
 module _ {A : Type 0} {tried : Reply Value} {next whole : Reply A} where
   pub passed : Decides tried next whole → answer done ≡ tried → whole ≡ next
   passed (pass e f) d = f
   passed (fail k c e f) d = absurd (refusal_answer (sym e ∙ sym d))
 
-  pub failed : Decides tried next whole → (r : Answer) → (r ≡ enum.Done → ⊥) → reply_of r ≡ tried
-      → (k : ℕ) × (c : Carried) × (reply_of r ≡ refusal k c) × (whole ≡ refusal k c)
-  failed (pass e f) r h d = absurd (not_done r h (d ∙ e))
-  failed (fail k c e f) r h d = (k, c, d ∙ e, f)
-
-pub same_refusal : {tried next whole : Reply Value} → Decides tried next whole → (r : Answer) → (r ≡ enum.Done → ⊥) → reply_of r ≡ tried → reply_of r ≡ whole
-same_refusal d r h e = let z = failed d r h e in z.2 ∙ sym z.3
+  pub failed : Decides tried next whole → {k : ℕ} {c : Carried} → refusal k c ≡ tried → refusal k c ≡ whole
+  failed (pass e f) d = absurd (refusal_answer (d ∙ e))
+  failed (fail n b e f) {k} {c} d =
+      let same : ◌≡◌ {A = Reply Value} (refusal k c) (refusal n b) = d ∙ e in
+      let number : k ≡ n = cc in
+      let carried : c ≡ b = cc in
+      (λ j. refusal (number j) (carried j)) ∙ sym f
 
 -- ---- the tests one by one
+
+-- the test of `==` is that of the tree
+same_kind_is : (a b : Kind) → sameb the_type a b ≡ same_kind a b
+same_kind_is Static Static = refl
+same_kind_is Static Dynamic = refl
+same_kind_is Dynamic Static = refl
+same_kind_is Dynamic Dynamic = refl
+
+-- 8, by the kinds as code compares them
+pub kind_is : (a b x y : Kind) (s : Bool) → a ≡ x → b ≡ y → not (sameb the_type a b) ≡ s
+    → refuse {A = Value} s 8 nothing (answer done) ≡ refuse (not (same_kind x y)) 8 nothing (answer done)
+kind_is a b x y s p q e =
+    ap (λ (z : Bool). refuse {A = Value} z 8 nothing (answer done)) (sym e ∙ ap not (same_kind_is a b ∙ ap₂ same_kind p q))
 
 module _ (L : Limits) (t : Tree) (child parent : ℕ) (stamp : Stamp) (p : Isometry) where
   abbrev a : Addition
@@ -134,8 +108,8 @@ module _ (L : Limits) (t : Tree) (child parent : ℕ) (stamp : Stamp) (p : Isome
     unfolding admits
     held_is = refl
 
-    pub held_tested : (r : Answer) → (r ≡ enum.Done → ⊥) → reply_of r ≡ tested → reply_of r ≡ held
-    held_tested r h d = same_refusal (pose_tests_decides child parent p after_pose) r h d ∙ sym held_is
+    pub held_tested : {k : ℕ} {c : Carried} → refusal k c ≡ tested → refusal k c ≡ held
+    held_tested d = failed (pose_tests_decides child parent p after_pose) d ∙ sym held_is
 
     held_after : answer done ≡ tested → held ≡ after_pose
     held_after d = held_is ∙ passed (pose_tests_decides child parent p after_pose) d
@@ -162,8 +136,8 @@ module _ (L : Limits) (t : Tree) (child parent : ℕ) (stamp : Stamp) (p : Isome
     unfolding admits
     new_is = rw q
 
-    pub new_tested : (r : Answer) → (r ≡ enum.Done → ⊥) → reply_of r ≡ tested → reply_of r ≡ new
-    new_tested r h d = same_refusal (pose_tests_decides child parent p after_tested) r h d ∙ sym new_is
+    pub new_tested : {k : ℕ} {c : Carried} → refusal k c ≡ tested → refusal k c ≡ new
+    new_tested d = failed (pose_tests_decides child parent p after_tested) d ∙ sym new_is
 
     pub new_room : answer done ≡ tested → after_tested ≡ new
     new_room d = sym (new_is ∙ passed (pose_tests_decides child parent p after_tested) d)

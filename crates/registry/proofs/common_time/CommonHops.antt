@@ -1,22 +1,26 @@
 -- Narrowing hop by hop gives the latest common time of the hops, and of two frames from where the climbs from them end.
 use Prim.Native.Nat.{ℕ}
 use mathlib.Core.Path.{◌≡◌, refl, sym, ap, ◌∙◌}
+use mathlib.Core.Bool.{true, cond}
 use Rattle.std.specs.Prelude.{None, Some}
+use lib.Dec.{eqb}
 use mathlib.Core.List.{List, [], ◌∷◌, ◌++◌}
 use borrow.Author.Tests.{eq-eqb, ne_eqb}
 use Rattle.time.specs.Reply.{Reply, answer, refusal, nothing, ◌then◌}
 use Rattle.buffer.specs.declared.coverage.Coverage.{Coverage}
 use Rattle.buffer.specs.declared.coverage.Coverage.TheVariants.{AllTime, Range, Empty}
 use Rattle.buffer.specs.Samples.{coverage}
-use Rattle.registry.specs.declared.common_time.common.Narrowed.{Narrowed}
 use Rattle.registry.specs.Tree.{Tree}
+use Rattle.registry.specs.Store.{Store, tree_of}
+use Rattle.registry.specs.Sound.{SoundStore, no_circle}
 use Rattle.registry.specs.Answers.{Value}
 use Rattle.registry.specs.Path.{Hop, Span, span_then, spans, earliest_end, latest_start, meet}
+use Rattle.registry.specs.paths.Edges.{OfTree}
 use Rattle.registry.specs.paths.Walks.{hops_to, ask_known}
-use Rattle.registry.specs.common_time.Spans.{CommonSpan, narrow, narrow_by, narrowed, agreed, narrowed_reply}
-use Rattle.registry.proofs.paths.Climbing.{Grounded}
+use Rattle.registry.specs.common_time.Spans.{CommonSpan, narrow, narrow_by, narrowed, agreed}
 use Rattle.registry.proofs.paths.ClimbEnds.{EndAt}
 use Rattle.registry.proofs.paths.AskEnds.{ask_ends}
+use Rattle.registry.proofs.paths.SoundWalks.{sound_grounded, sound_ends}
 
 -- by one span after the other
 abbrev narrow_all : CommonSpan → List Span → CommonSpan
@@ -72,21 +76,17 @@ sides_agree a b = assoc (narrowed None a) ∙ ap (λ (r : Reply CommonSpan). r t
 abbrev pub common_known : Tree → ℕ → ℕ → Reply Value
 common_known t f g = ask_known t f g (λ a b. spans (a ++ b) then meet) (λ a b. refusal 10 nothing)
 
-module _ (t : Tree) (gr : Grounded t) (f g x y : ℕ) (ends : EndAt t f g x y) where
+-- the climbs over the head of a sound store end at x and y
+module _ (s : Store) (ok : SoundStore s) (f g x y : ℕ) (ends : OfTree s.head (λ t. no_circle t ≡ true → EndAt t f g x y)) where
+  abbrev t : Tree
+  t = tree_of s
+
+  known_ends : common_known t f g ≡ cond (eqb x y) (spans (hops_to t f x ++ hops_to t g y) then meet) (refusal 10 nothing)
+  known_ends = ask_ends (λ a b. spans (a ++ b) then meet) (λ a b. refusal 10 nothing) t f g (sound_grounded s ok) x y (sound_ends s ok f g x y ends)
+
   pub common_apart : (x ≡ y → ⊥) → refusal 10 nothing ≡ common_known t f g
-  common_apart ne = sym (ask_ends (λ a b. spans (a ++ b) then meet) (λ a b. refusal 10 nothing) t f g gr x y ends ∙ rw (ne_eqb x y ne))
+  common_apart ne = sym (known_ends ∙ rw (ne_eqb x y ne))
 
   -- the target's side narrows to a, and then the source's
   pub common_meets : x ≡ y → (a : Reply CommonSpan) → a ≡ narrowed None (hops_to t f x) → (a then λ c. narrowed c (hops_to t g y) then agreed) ≡ common_known t f g
-  common_meets e a p =
-      rw p
-      (sides_agree (hops_to t f x) (hops_to t g y)
-      ∙ sym (ask_ends (λ a b. spans (a ++ b) then meet) (λ a b. refusal 10 nothing) t f g gr x y ends ∙ rw (eq-eqb x y e)))
-
--- what a climb gave, g, is v
-pub narrowed_is : (g v : Narrowed) (r : Reply CommonSpan) → g ≡ v → narrowed_reply g ≡ r → narrowed_reply v ≡ r
-narrowed_is g v r e h = sym (ap narrowed_reply e) ∙ h
-
--- and what it is then agreed on
-pub agreed_is : (g v : Narrowed) (r : Reply CommonSpan) → g ≡ v → narrowed_reply g ≡ r → (narrowed_reply v then agreed) ≡ (r then agreed)
-agreed_is g v r e h = ap (λ (z : Reply CommonSpan). z then agreed) (narrowed_is g v r e h)
+  common_meets e a p = rw p (sides_agree (hops_to t f x) (hops_to t g y) ∙ sym (known_ends ∙ rw (eq-eqb x y e)))

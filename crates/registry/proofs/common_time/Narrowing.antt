@@ -1,19 +1,17 @@
 -- What the hops of a path have in common, narrowed while climbing: what is left of the climb decides.
 use Prim.Native.Nat.{ℕ}
-use mathlib.Core.Path.{◌≡◌, sym, ap, subst, ◌∙◌}
+use mathlib.Core.Path.{◌≡◌, sym, ap, ◌∙◌}
 use Rattle.std.specs.Prelude.{Option, None, Some, option_map}
-use mathlib.Core.List.{[]}
 use Rattle.time.specs.Reply.{Reply, answer, ◌then◌}
 use Rattle.buffer.specs.declared.coverage.Coverage.{Coverage}
 use Rattle.buffer.specs.Map.{get}
 use Rattle.buffer.proofs.Cases.{none_some}
-use Rattle.registry.specs.declared.paths.edges.HopCoverage.{HopCoverage}
 use Rattle.registry.specs.Tree.{Tree}
-use Rattle.registry.specs.paths.Edges.{edge_coverage, coverage_read}
+use Rattle.registry.specs.paths.Edges.{edge_coverage}
 use Rattle.registry.specs.paths.Walks.{hops_to}
 use Rattle.registry.specs.common_time.Spans.{CommonSpan, narrow_by, narrowed}
 use Rattle.registry.proofs.paths.Climbing.{edge_or, Grounded}
-use Rattle.registry.proofs.paths.SideHops.{ChildOf, hops_end, hops_up, hops_root}
+use Rattle.registry.proofs.paths.SideHops.{ChildOf, hops_up, hops_root}
 
 pub coverage_parent : (t : Tree) (f : ℕ) (c : Coverage) (p : ℕ) → Some (c, p) ≡ edge_coverage t f → ChildOf t f p
 coverage_parent t f c p e =
@@ -40,10 +38,6 @@ abbrev pub Narrowing : Tree → (frame top : ℕ) → CommonSpan → ℕ → Com
 Narrowing t frame top c at d = narrowed c (hops_to t frame top) ≡ narrowed d (hops_to t at top)
 
 module _ (t : Tree) (frame top : ℕ) (c : CommonSpan) (at : ℕ) (d : CommonSpan) (w : Narrowing t frame top c at d) where
-  pub narrowing_top : at ≡ top → answer d ≡ narrowed c (hops_to t frame top)
-  narrowing_top e = sym (w ∙ ap (narrowed d) (subst (λ (x : ℕ). hops_to t at x ≡ []) e (hops_end t at)))
-
-  -- of `at` r was read, which is v
-  pub narrowing_hop : Grounded t → (at ≡ top → ⊥) → {r v : HopCoverage} → r ≡ v → coverage_read r ≡ edge_coverage t at
-      → narrowed c (hops_to t frame top) ≡ narrow_on t at top d (coverage_read v)
-  narrowing_hop gr ne told e = w ∙ narrowed_by t gr at top d ne ∙ ap (narrow_on t at top d) (sym e ∙ ap coverage_read told)
+  -- of `at` r was read
+  pub narrowing_hop : Grounded t → (at ≡ top → ⊥) → (r : Option (Coverage × ℕ)) → r ≡ edge_coverage t at → narrowed c (hops_to t frame top) ≡ narrow_on t at top d r
+  narrowing_hop gr ne r e = rw e (w ∙ narrowed_by t gr at top d ne)

@@ -2,7 +2,6 @@
 use Prim.Native.Nat.{ℕ, ◌-◌, max}
 use mathlib.Core.Path.{◌≡◌, refl, sym, ap, ◌∙◌}
 use mathlib.Core.Bool.{Bool, cond}
-use mathlib.Core.Option
 use Rattle.std.specs.Prelude.{Option, None, Some, option_map}
 use mathlib.Core.List.{List, [], ◌∷◌, ◌++◌, map}
 use native.Mathlib.Omega.{arith}
@@ -18,7 +17,8 @@ use Rattle.buffer.specs.Samples.{Samples, newest, survives, insert, last?, first
 use Rattle.buffer.proofs.Cases.{both, none_some}
 use Rattle.buffer.proofs.Maps.{Rising}
 use Rattle.buffer.proofs.SampleLaws.{survives_zero, survives_down, newest_insert_lem, get_insert_lem, rising_insert}
-use Rattle.registry.specs.Tree.{Edge, Addition, kind_of, instant_of, updated_edge}
+use Rattle.buffer.specs.Kind.{kind_of}
+use Rattle.registry.specs.Tree.{Edge, Addition, instant_of, updated_edge}
 use Rattle.registry.specs.History.{select, greatest, own, parent_of, frame_kind, last_pose, at_instant, newest_instant, recent, survivor_in, survivor}
 use Rattle.registry.proofs.addition.Accepted.{Suits}
 

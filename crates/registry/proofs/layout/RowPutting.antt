@@ -10,7 +10,7 @@ use lib.Ieee.{Float}
 use lib.ListN.{length}
 use borrow.Author.Tests.{ltb-false}
 use borrow.Rule.Slice.PartMut.{put_mid, put_same}
-use Rattle.time.specs.Reply.{Reply, answer, refusal, nothing}
+use Rattle.time.specs.Reply.{Reply, Carried, answer, refusal, nothing}
 use Rattle.time.proofs.Replies.{refusal_answer}
 use Rattle.geometry.specs.declared.isometry.Isometry.{Isometry}
 use Rattle.buffer.specs.Samples.{Samples, insert}
@@ -55,16 +55,19 @@ module _ (s : Store) (r : ℕ) (h : StoredRow r s) (i : ℕ) (p : Isometry) wher
     unfolding insert_row
     left_held q = left_row ∙ rw (ap (λ (w : ℕ). ltb w (length m)) long ∙ q) (ap (λ (w : ℕ). row.holding w m) long)
 
-    pub row_full : reply ≡ refusal 17 nothing
-        → outcome (refusal 17 nothing) s.head (put_mid first (first + width - first) s.instants ts) (put_mid float (float + floats - float) s.poses fs)
+    pub row_refused : (k : ℕ) (c : Carried) → reply ≡ refusal k c
+        → outcome (refusal k c) s.head (put_mid first (first + width - first) s.instants ts) (put_mid float (float + floats - float) s.poses fs)
         ≡ written s (limits_of s) (put_into s r i p)
-    row_full f =
+    row_refused k c f =
         both (ltb (capacity_in s) (length m))
         (λ q.
         let o = left_full q in
+        let same : ◌≡◌ {A = Reply ℕ} (refusal k c) (refusal 17 nothing) = sym f ∙ ap (λ (z : RowOutcome). z.count) o in
+        let number : k ≡ 17 = cc in
+        let carried : c ≡ nothing = cc in
         let x : ts ≡ lent_instants s first width = ap (λ (z : RowOutcome). z.instants) o ∙ sym (instants_lent cut) in
         let y : fs ≡ lent_poses s float floats = ap (λ (z : RowOutcome). z.poses) o ∙ sym (poses_lent cut) in
-        rw (x, y, put_same first (first + width - first) s.instants, put_same float (float + floats - float) s.poses) (sym (written_full q)))
+        rw (number, carried, x, y, put_same first (first + width - first) s.instants, put_same float (float + floats - float) s.poses) (sym (written_full q)))
         (λ q. absurd (refusal_answer (sym f ∙ ap (λ (z : RowOutcome). z.count) (left_held q))))
 
     pub row_held : (k : ℕ) → reply ≡ answer k → (head : List ℕ) → head ≡ with_count r k s.head

@@ -15,7 +15,7 @@ use Rattle.buffer.specs.declared.kind.Kind.TheVariants.{Static, Dynamic}
 use Rattle.buffer.specs.Map.{all, rising}
 use Rattle.buffer.specs.Row.{is_zero, padded, concat_map, instant_words, pose_words, instants_sound, poses_sound, row_sound}
 use Rattle.buffer.proofs.Alls.{all_at, all_replicate}
-use Rattle.buffer.proofs.Floats.{is_zero64}
+use Rattle.buffer.specs.Row.{is_zero64}
 use Rattle.buffer.proofs.SoundRows.{words_sound}
 use Rattle.registry.specs.Tree.{Edge, Tree, Limits}
 use Rattle.registry.specs.Store.{kind_word, flag_word, age_word, row_words, encode, age_in, row_word, kind_of_word, row_instants, row_poses, stored, sized}

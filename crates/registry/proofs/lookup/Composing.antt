@@ -1,21 +1,19 @@
 -- The poses of a side, composed while climbing: what is left of the climb decides.
 use Prim.Native.Nat.{ℕ}
-use mathlib.Core.Path.{◌≡◌, refl, sym, ap, subst, ◌∙◌}
+use mathlib.Core.Path.{◌≡◌, refl, sym, ap, ◌∙◌}
 use Rattle.std.specs.Prelude.{Option, None, Some, option_map}
-use mathlib.Core.List.{List, []}
-use Rattle.time.specs.Reply.{Carried, Reply, answer, refusal, ◌then◌}
-use Rattle.time.proofs.Replies.{refusal_answer}
+use mathlib.Core.List.{List}
+use Rattle.time.specs.Reply.{Reply, answer, refusal, ◌then◌}
 use Rattle.geometry.specs.declared.isometry.Isometry.{Isometry}
 use Rattle.buffer.specs.Map.{get}
 use Rattle.buffer.specs.Samples.{served}
 use Rattle.buffer.proofs.Cases.{none_some}
-use Rattle.registry.specs.declared.paths.edges.HopPose.{HopPose}
-use Rattle.registry.specs.Tree.{Edge, Tree}
+use Rattle.registry.specs.Tree.{Tree}
 use Rattle.registry.specs.Path.{Hop, onto, fold}
-use Rattle.registry.specs.paths.Edges.{edge_pose, pose_read}
+use Rattle.registry.specs.paths.Edges.{edge_pose}
 use Rattle.registry.specs.paths.Walks.{hops_to}
 use Rattle.registry.proofs.paths.Climbing.{edge_or, Grounded}
-use Rattle.registry.proofs.paths.SideHops.{ChildOf, hops_end, hops_up, hops_root}
+use Rattle.registry.proofs.paths.SideHops.{ChildOf, hops_up, hops_root}
 
 -- ---- what the pose of a frame tells of its edge
 
@@ -33,9 +31,6 @@ module _ (t : Tree) (f i : ℕ) where
       by : (k : ℕ) (r : Reply Isometry) → Some p ≡ parent_by (r then λ y. answer (Some (y, k))) → k ≡ p
       by k (answer y) z = cc
       by k (refusal n c) z = cc
-
-  pub unserved_child : (k : ℕ) (c : Carried) → refusal k c ≡ edge_pose t f i → (e : Edge) × (get t f ≡ Some e)
-  unserved_child k c e = edge_or (get t f) (λ q. absurd (refusal_answer {v = None} (e ∙ rw q))) (λ d q. (d, q))
 
 -- ---- the side from a frame, by its pose
 
@@ -64,11 +59,7 @@ abbrev pub Composing : Tree → (frame top i at : ℕ) → Option Isometry → T
 Composing t frame top i at below = fold None (hops_to t frame top) i ≡ fold below (hops_to t at top) i
 
 module _ (t : Tree) (frame top i at : ℕ) (below : Option Isometry) (w : Composing t frame top i at below) where
-  pub composing_top : at ≡ top → answer below ≡ fold None (hops_to t frame top) i
-  composing_top e = sym (w ∙ ap (λ (hs : List Hop). fold below hs i) (subst (λ (x : ℕ). hops_to t at x ≡ []) e (hops_end t at)))
-
-  -- of `at` r was read, which is v
-  pub composing_hop : Grounded t → (at ≡ top → ⊥) → {r v : HopPose} → r ≡ v → pose_read at r ≡ edge_pose t at i
-      → fold None (hops_to t frame top) i ≡ (pose_read at v then fold_on t top i below)
-  composing_hop gr ne told e =
-      w ∙ fold_by t gr at top i below ne ∙ ap (λ (x : Reply (Option (Isometry × ℕ))). x then fold_on t top i below) (sym e ∙ ap (pose_read at) told)
+  -- of `at` r was read
+  pub composing_hop : Grounded t → (at ≡ top → ⊥) → (r : Reply (Option (Isometry × ℕ))) → r ≡ edge_pose t at i
+      → fold None (hops_to t frame top) i ≡ (r then fold_on t top i below)
+  composing_hop gr ne r e = rw e (w ∙ fold_by t gr at top i below ne)

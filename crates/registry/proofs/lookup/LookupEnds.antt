@@ -1,6 +1,6 @@
 -- A lookup, told from where the climbs from two frames end.
 use Prim.Native.Nat.{ℕ}
-use mathlib.Core.Path.{◌≡◌, refl, sym, ap, ◌∙◌}
+use mathlib.Core.Path.{◌≡◌, refl, sym, ◌∙◌}
 use mathlib.Core.Bool.{Bool, true, false, cond}
 use Rattle.std.specs.Prelude.{Option, None}
 use mathlib.Core.List.{List}
@@ -8,14 +8,15 @@ use lib.Dec.{eqb}
 use borrow.Author.Tests.{eq-eqb, ne_eqb}
 use Rattle.time.specs.Reply.{Reply, answer, refusal, nothing, ◌then◌}
 use Rattle.geometry.specs.declared.isometry.Isometry.{Isometry}
-use Rattle.registry.specs.declared.lookup.compose.Composed.{Composed}
 use Rattle.registry.specs.Tree.{Tree}
+use Rattle.registry.specs.Store.{Store, tree_of}
+use Rattle.registry.specs.Sound.{SoundStore, no_circle}
 use Rattle.registry.specs.Path.{Hop, fold, combined, lookup_along, lookup_apart}
+use Rattle.registry.specs.paths.Edges.{OfTree}
 use Rattle.registry.specs.paths.Walks.{hops_to, ask_known}
-use Rattle.registry.specs.lookup.Sides.{composed_reply}
-use Rattle.registry.proofs.paths.Climbing.{Grounded}
 use Rattle.registry.proofs.paths.ClimbEnds.{EndAt}
 use Rattle.registry.proofs.paths.AskEnds.{ask_ends}
+use Rattle.registry.proofs.paths.SoundWalks.{sound_grounded, sound_ends}
 
 -- both sides are folded before it is told whether they meet
 fold_both : (meets : Bool) (i : ℕ) (a b : List Hop)
@@ -24,15 +25,17 @@ fold_both : (meets : Bool) (i : ℕ) (a b : List Hop)
 fold_both true i a b = refl
 fold_both false i a b = refl
 
--- what a climb gave, c, is v
-pub composed_is : (c v : Composed) (r : Reply (Option Isometry)) → c ≡ v → composed_reply c ≡ r → composed_reply v ≡ r
-composed_is c v r e h = sym (ap composed_reply e) ∙ h
+-- the climbs over the head of a sound store end at x and y
+module _ (s : Store) (ok : SoundStore s) (f g x y i : ℕ) (ends : OfTree s.head (λ t. no_circle t ≡ true → EndAt t f g x y)) where
+  abbrev t : Tree
+  t = tree_of s
 
-module _ (t : Tree) (gr : Grounded t) (f g x y i : ℕ) (ends : EndAt t f g x y) where
   pub lookup_ends : (a b : Reply (Option Isometry)) → a ≡ fold None (hops_to t f x) i → b ≡ fold None (hops_to t g y) i
       → (a then λ p. b then λ q. cond (eqb x y) (combined p q) (refusal 10 nothing)) ≡ ask_known t f g (lookup_along i) (lookup_apart i)
   lookup_ends a b p q =
-      rw (p, q) (fold_both (eqb x y) i (hops_to t f x) (hops_to t g y) ∙ sym (ask_ends (lookup_along i) (lookup_apart i) t f g gr x y ends))
+      rw (p, q)
+      (fold_both (eqb x y) i (hops_to t f x) (hops_to t g y)
+      ∙ sym (ask_ends (lookup_along i) (lookup_apart i) t f g (sound_grounded s ok) x y (sound_ends s ok f g x y ends)))
 
   module _ (a b : Option Isometry) (p : answer a ≡ fold None (hops_to t f x) i) (q : answer b ≡ fold None (hops_to t g y) i) where
     pub lookup_apart_lem : (x ≡ y → ⊥) → refusal 10 nothing ≡ ask_known t f g (lookup_along i) (lookup_apart i)

@@ -19,7 +19,8 @@ use Rattle.geometry.specs.Order.{pose_due}
 use Rattle.geometry.proofs.Order.{refuse_due, refuse_then_due}
 use Rattle.buffer.specs.Map.{get}
 use Rattle.buffer.proofs.Cases.{both}
-use Rattle.registry.specs.Tree.{Edge, Tree, Limits, Addition, kind_of, is_absent, ancestors, member, other_parent, current_parent, other_kind, updated_edge, add, wiped, wipe}
+use Rattle.buffer.specs.Kind.{kind_of}
+use Rattle.registry.specs.Tree.{Edge, Tree, Limits, Addition, is_absent, ancestors, member, other_parent, current_parent, other_kind, updated_edge, add, wiped, wipe}
 use Rattle.registry.specs.Store.{Store, limits_of, tree_of, sizes_fit}
 use Rattle.registry.specs.Calls.{written, open_of, on_tree, add_of, wipe_of}
 use Rattle.registry.specs.Order.{open_due, OpenFirstDue, add_order, add_due, AddFirstDue, wipe_order, wipe_due, WipeFirstDue}

@@ -1,18 +1,19 @@
 -- What is asked of two frames, told from where the climbs from them end.
 use Prim.Native.Nat.{ℕ}
-use mathlib.Core.Path.{◌≡◌, refl, sym, ap, subst, ◌∙◌}
+use mathlib.Core.Path.{◌≡◌, refl, sym, ap, ◌∙◌}
 use mathlib.Core.Bool.{Bool, true, false, cond}
 use mathlib.Core.List.{List, [], ◌∷◌}
 use lib.Dec.{eqb}
 use borrow.Author.Tests.{eq-eqb, ne_eqb}
-use Rattle.time.specs.Reply.{Reply}
+use Rattle.std.specs.Prelude.{Ok, Err}
+use Rattle.time.specs.Reply.{Reply, answer, refusal, frame}
 use Rattle.buffer.proofs.Cases.{both, false_true}
-use Rattle.registry.specs.declared.paths.frames.Endpoints.{Endpoints}
-use Rattle.registry.specs.declared.paths.frames.Endpoints.TheVariants.{Same, Unknown, Known}
+use Rattle.registry.specs.declared.error.RegistryError.{RegistryError}
+use Rattle.registry.specs.declared.error.RegistryError.TheVariants.{UnknownFrame}
 use Rattle.registry.specs.Tree.{Tree, member}
 use Rattle.registry.specs.Answers.{Value}
 use Rattle.registry.specs.Path.{Hop, chain, until, any, side, connected, hops, known, ask}
-use Rattle.registry.specs.paths.Walks.{hops_to, ask_known, AskedBy}
+use Rattle.registry.specs.paths.Walks.{hops_to, known_frames, ask_known}
 use Rattle.registry.proofs.paths.Climbing.{Grounded}
 use Rattle.registry.proofs.paths.Paths.{connected_sym}
 use Rattle.registry.proofs.paths.ClimbEnds.{EndAt, ends_meet, hops_end_at}
@@ -32,27 +33,36 @@ side_apart t f g h = until_none (λ x. member x (chain t g)) (chain t f) h
 
 -- ---- the questions
 
+-- what `known_frames` says of a question
 module _ (t : Tree) (f g : ℕ) where
-  pub asked_no_target : known t f ≡ false → AskedBy t f g (Unknown f)
+  pub known_both : Ok tt ≡ known_frames t f g → (known t f ≡ true) × (known t g ≡ true)
+  known_both e =
+      both (known t f)
+      (λ k. both (known t g)
+      (λ m. (k, m))
+      (λ m. let z : Ok tt ≡ Err (UnknownFrame g) = e ∙ rw (k, m) in cc))
+      (λ k. let z : Ok tt ≡ Err (UnknownFrame f) = e ∙ rw k in cc)
+
+  -- the first frame that is unknown is named, with 9
+  pub ask_unknown : (e : RegistryError) (same : Value) (along apart : List Hop → List Hop → Reply Value) → Err e ≡ known_frames t f g
+      → (x : ℕ) × (e ≡ UnknownFrame x) × (refusal 9 (frame x) ≡ ask t f g same along apart)
   unfolding ask
-  asked_no_target k same along apart = sym (rw k)
+  ask_unknown e same along apart q =
+      both (known t f)
+      (λ k. both (known t g)
+      (λ m. let z : Err e ≡ Ok tt = q ∙ rw (k, m) in cc)
+      (λ m. let z : Err e ≡ Err (UnknownFrame g) = q ∙ rw (k, m) in (g, (let y = z in cc), sym (rw (k, m)))))
+      (λ k. let z : Err e ≡ Err (UnknownFrame f) = q ∙ rw k in (f, (let y = z in cc), sym (rw k)))
 
-  module _ (k : known t f ≡ true) where
-    pub asked_no_source : known t g ≡ false → AskedBy t f g (Unknown g)
-    unfolding ask
-    asked_no_source m same along apart = sym (rw (k, m))
+  pub ask_same : (same : Value) (along apart : List Hop → List Hop → Reply Value) → Ok tt ≡ known_frames t f g → f ≡ g
+      → answer same ≡ ask t f g same along apart
+  unfolding ask
+  ask_same same along apart q e = let k = known_both q in sym (rw (k.0, k.1, eq-eqb f g e))
 
-    pub asked_same : known t g ≡ true → f ≡ g → AskedBy t f g Same
-    unfolding ask
-    asked_same m e same along apart = sym (rw (k, m, eq-eqb f g e))
-
-    pub asked_known : known t g ≡ true → (f ≡ g → ⊥) → AskedBy t f g Known
-    unfolding ask
-    asked_known m ne same along apart = sym (rw (k, m, ne_eqb f g ne))
-
--- the two frames are found to be e, which is v
-pub asked_is : (t : Tree) (f g : ℕ) (e v : Endpoints) → e ≡ v → AskedBy t f g e → AskedBy t f g v
-asked_is t f g e v q h = subst (AskedBy t f g) q h
+  pub ask_apart : (same : Value) (along apart : List Hop → List Hop → Reply Value) → Ok tt ≡ known_frames t f g → (f ≡ g → ⊥)
+      → ask_known t f g along apart ≡ ask t f g same along apart
+  unfolding ask
+  ask_apart same along apart q ne = let k = known_both q in sym (rw (k.0, k.1, ne_eqb f g ne))
 
 module _ (along apart : List Hop → List Hop → Reply Value) (t : Tree) (f g : ℕ) where
   -- without a path the sides are the climbs to the roots

@@ -10,19 +10,14 @@ use Rattle.registry.specs.Store.{Store, limits_of, tree_of, stored, sized}
 use Rattle.registry.specs.Sound.{sound, SoundStore}
 use Rattle.registry.specs.Answers.{done}
 use Rattle.registry.specs.Calls.{on_tree, add_of, wipe_of, lookup_of, common_time_of}
-use Rattle.registry.specs.declared.check.Checked.TheVariants.{Sound}
 use Rattle.registry.specs.History.{is_answer}
-use Rattle.registry.specs.Laws.{InRange, SoundTree}
+use Rattle.registry.specs.Laws.{SoundTree}
 use Rattle.registry.specs.Path.{lookup, common_time}
 use Rattle.registry.specs.PathLaws.{SameAnswers, SameReplies, CallsPathLaw, CallsPathLawWipe}
 use Rattle.registry.proofs.histories.Runs.{written_to, written_answered, on_tree_lem}
 use Rattle.registry.proofs.layout.StoreBack.{tree_back}
 use Rattle.registry.proofs.soundness.SoundEdges.{sound_fits}
-use Rattle.registry.proofs.layout.SizeLaws.{sized_is}
-use Rattle.registry.proofs.soundness.Rules.{sound_is}
-use Rattle.registry.proofs.layout.SoundIsStored.{sound_tree}
-use Rattle.registry.proofs.layout.StoredIsSound.{stored_is_sound}
-use Rattle.registry.proofs.soundness.Called.{finds_sound, called}
+use Rattle.registry.proofs.soundness.Called.{finds_sound, called, limits_in_range, tree_sound, words_sound}
 use Rattle.registry.proofs.soundness.AddKeepsSound.{add_keeps_sound}
 use Rattle.registry.proofs.soundness.WipeKeepsSound.{wipe_keeps_sound}
 use Rattle.registry.proofs.paths.PathLaw.{path_law, path_law_wipe}
@@ -37,26 +32,18 @@ answered_sound s call v e =
 
 -- the store's tree
 module _ (s : Store) (h : SoundStore s) where
-  range : InRange (limits_of s).rows (limits_of s).capacity
-  unfolding limits_of
-  range = ((sized_is s).0 h.sizes).range
-
-  tree : SoundTree (limits_of s) (tree_of s)
-  tree = sound_tree s ((sized_is s).0 h.sizes) ((sound_is s).0 h.rules)
-
   -- a question of the words of a sound tree
   asked_stored : {A : Type 0} (u : Tree) → SoundTree (limits_of s) u → (ask : Tree → Reply A) → on_tree (stored (limits_of s) u) (λ L t. ask t) ≡ ask u
   asked_stored u k ask =
       let L = limits_of s in
-      let e = stored_is_sound L u range k in
-      sym (called (stored L u) Sound (finds_sound (stored L u) (record { sizes = e.0; rules = e.1 })) (λ L t. ask t))
-      ∙ ap ask (tree_back L u (sound_fits L u range.positive_capacity k))
+      sym (called (stored L u) (answer tt) (finds_sound (stored L u) (words_sound s h u k)) (λ L t. ask t))
+      ∙ ap ask (tree_back L u (sound_fits L u (limits_in_range s h).positive_capacity k))
 
   same_replies : (u : Tree) → SoundTree (limits_of s) u → (f g : ℕ) → SameAnswers (tree_of s) u f g → SameReplies s (stored (limits_of s) u) f g
   unfolding lookup_of common_time_of
   same_replies u k f g same = record {
-    lookups = λ i. asked_stored u k (λ t. lookup t f g i) ∙ same.lookups i ∙ called s Sound (finds_sound s h) (λ L t. lookup t f g i);
-    common_times = asked_stored u k (λ t. common_time t f g) ∙ same.common_times ∙ called s Sound (finds_sound s h) (λ L t. common_time t f g);
+    lookups = λ i. asked_stored u k (λ t. lookup t f g i) ∙ same.lookups i ∙ called s (answer tt) (finds_sound s h) (λ L t. lookup t f g i);
+    common_times = asked_stored u k (λ t. common_time t f g) ∙ same.common_times ∙ called s (answer tt) (finds_sound s h) (λ L t. common_time t f g);
   }
 
 -- a call that is answered with done leaves the words of the tree that it answers
@@ -75,7 +62,7 @@ pub calls_path_law : CallsPathLaw
 unfolding add_of
 calls_path_law s a c p e f g known m off =
     let d = call_done s (λ L t. add L t a) e in
-    let k = tree s d.held in
+    let k = tree_sound s d.held in
     rw d.left
     (same_replies s d.held d.tree (add_keeps_sound (limits_of s) (tree_of s) d.tree a c p k d.answers) f g
     (path_law (limits_of s) (tree_of s) d.tree a k.rises k.circles d.answers f g known m off))
@@ -84,7 +71,7 @@ pub calls_path_law_wipe : CallsPathLawWipe
 unfolding wipe_of
 calls_path_law_wipe s c i e f g m off =
     let d = call_done s (λ L t. wipe t c i) e in
-    let k = tree s d.held in
+    let k = tree_sound s d.held in
     rw d.left
     (same_replies s d.held d.tree (wipe_keeps_sound (limits_of s) (tree_of s) d.tree c i k d.answers) f g
     (path_law_wipe (tree_of s) d.tree c i k.rises d.answers f g m off))

@@ -2,20 +2,19 @@
 use Prim.Native.Nat.{ℕ, ◌-◌, ◌≤◌, ◌<◌}
 use mathlib.Core.Path.{◌≡◌, sym, ap, ◌∙◌}
 use mathlib.Core.Bool.{true}
-use Rattle.std.specs.Prelude.{Some}
+use Rattle.std.specs.Prelude.{None, Some}
 use native.Mathlib.Omega.{arith}
 use lib.ListN.{length}
 use lib.Dec.{eqb}
 use Rattle.buffer.specs.Map.{get}
 use Rattle.buffer.proofs.Cases.{both}
-use Rattle.registry.specs.declared.paths.climbs.Climb.TheVariants.{Met}
 use Rattle.registry.specs.Tree.{Edge, Tree, ancestors, member}
 use Rattle.registry.specs.Sound.{climb}
 use Rattle.registry.specs.Path.{chain, climb_end}
-use Rattle.registry.specs.paths.Walks.{climb_to}
+use Rattle.registry.specs.paths.Walks.{steps_to_root}
 use Rattle.registry.proofs.paths.Climbing.{edge_or, Grounded}
 use Rattle.registry.proofs.paths.Ancestors.{ancestors_none, ancestors_some}
-use Rattle.registry.proofs.paths.TreeWalks.{met_above}
+use Rattle.registry.proofs.paths.TreeWalks.{none_above}
 use Rattle.registry.proofs.paths.ClimbEnds.{EndAt, climb_end_here, climb_end_same, climb_end_root, climb_end_up, climb_end_stays, climb_end_above, not_above}
 
 module _ (t : Tree) (gr : Grounded t) where
@@ -47,11 +46,11 @@ module _ (t : Tree) (gr : Grounded t) where
   at_root f g l =
       sym (climb_end_root t gr f g (edge_or (get t f) (λ q. q) (λ e q. absurd (omega (arith, ap length (ancestors_some t gr f e q))))))
 
-  pub source_above : (f g : ℕ) → Met ≡ climb_to t f g → EndAt t f g g g
-  source_above f g m = ends_above f g (met_above t f g m)
+  pub source_above : (f g : ℕ) → None ≡ steps_to_root t f g → EndAt t f g g g
+  source_above f g m = ends_above f g (none_above t f g m)
 
-  pub target_above : (f g : ℕ) → Met ≡ climb_to t g f → EndAt t f g f f
-  target_above f g m = let z = ends_above g f (met_above t g f m) in (z.1, z.0)
+  pub target_above : (f g : ℕ) → None ≡ steps_to_root t g f → EndAt t f g f f
+  target_above f g m = let z = ends_above g f (none_above t g f m) in (z.1, z.0)
 
 -- ---- the climbs from f₀ and g₀ have come to f and g, which have a and b frames above them
 

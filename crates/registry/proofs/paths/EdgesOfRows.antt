@@ -1,46 +1,21 @@
--- The tree's edges, by the rows of the head: what a search for a frame's row says of the frame's edge, and whether some row has the frame as parent.
+-- Whether some row of the head has the frame as parent.
 use Prim.Native.Nat.{ℕ, zero, suc, ◌<◌}
-use mathlib.Core.Path.{◌≡◌, refl, sym, ap, subst, ◌∙◌}
+use mathlib.Core.Path.{◌≡◌, refl, sym, ap, ◌∙◌}
 use mathlib.Core.Bool.{true, false}
-use Rattle.std.specs.Prelude.{None, Some}
 use mathlib.Core.List.{List, [], ◌∷◌}
 use native.Mathlib.Omega.{arith}
 use lib.ListN.{length, get_or}
 use lib.Dec.{eqb}
-use lib.Ieee.{Float}
 use borrow.Author.Tests.{eq-eqb, ne_eqb}
-use Rattle.buffer.specs.Map.{get}
 use Rattle.buffer.proofs.Cases.{both}
-use Rattle.registry.specs.declared.search.Found.{Found}
-use Rattle.registry.specs.declared.search.Found.TheVariants.{At, Absent}
 use Rattle.registry.specs.Tree.{Edge, Tree}
-use Rattle.registry.specs.Store.{used_in, parent_in, edge_at, tree_of}
+use Rattle.registry.specs.Store.{used_in, parent_in, tree_of}
 use Rattle.registry.specs.Calls.{store_of}
 use Rattle.registry.specs.Path.{is_parent}
-use Rattle.registry.specs.layout.Rows.{head_of, HasRow, RisingRows, IsRow, Finds}
+use Rattle.registry.specs.layout.Rows.{head_of}
 use Rattle.registry.specs.paths.Edges.{OfTree}
-use Rattle.registry.proofs.layout.RowLaws.{used_row}
 use Rattle.registry.proofs.layout.StoreBack.{blank}
-use Rattle.registry.proofs.layout.TreeRows.{length_tree, tree_row, get_found, get_absent}
-
--- ---- what a search finds
-
-module _ (h : List ℕ) (rows : RisingRows h) (f : ℕ) (found : Found) (finds : Finds h f found) where
-  module _ (r : ℕ) (e : found ≡ At r) where
-    row : IsRow h f r
-    row = subst (Finds h f) e finds
-
-    pub row_used : r < used_in (head_of h)
-    row_used = row.used
-
-    pub row_within : HasRow r h
-    row_within = used_row h r rows.within row.used
-
-    pub row_edge : (i : List ℕ) (p : List Float) → (let s = store_of h i p in get (tree_of s) f ≡ Some (edge_at s r))
-    row_edge i p = get_found (store_of h i p) rows.rises f r row
-
-  pub row_none : (k : ℕ) → found ≡ Absent k → OfTree h (λ t. get t f ≡ None)
-  row_none k e i p = get_absent (store_of h i p) f k (subst (Finds h f) e finds)
+use Rattle.registry.proofs.layout.TreeRows.{length_tree, tree_row}
 
 -- ---- parents
 

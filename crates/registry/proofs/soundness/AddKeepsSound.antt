@@ -19,7 +19,8 @@ use Rattle.buffer.proofs.Cases.{and_both}
 use Rattle.buffer.proofs.Maps.{Rising, rising_is}
 use Rattle.buffer.proofs.SampleLaws.{rising_insert, fresh_insert, all_insert, insert_empty, insert_single}
 use Rattle.buffer.proofs.SoundRows.{instants_of}
-use Rattle.registry.specs.Tree.{Edge, Tree, Limits, Addition, kind_of, instant_of, updated_edge}
+use Rattle.buffer.specs.Kind.{kind_of}
+use Rattle.registry.specs.Tree.{Edge, Tree, Limits, Addition, instant_of, updated_edge}
 use Rattle.registry.specs.Laws.{SoundTree, AddKeepsSound}
 use Rattle.registry.proofs.addition.Accepted.{Accepted, add_accepted}
 use Rattle.registry.proofs.soundness.SoundEdges.{sound_edge, sound_put_held, sound_put_new}

@@ -1,31 +1,38 @@
--- What the tests of 1 and 2 find, and what they make of a call on a store that is lent.
+-- What the tests of 1 and 2 find, what they make of a call on a store that is lent, and that the calls which write leave a store sound.
+use Prim.Native.Nat.{ℕ, ◌^◌, ◌<◌}
 use mathlib.Core.Path.{◌≡◌, refl, sym, ap, ◌∙◌}
-use mathlib.Core.Bool.{Bool, true, false, not, ◌&&◌}
+use mathlib.Core.Bool.{Bool, true, false, not}
+use mathlib.Core.List.{[]}
 use Rattle.time.specs.Reply.{Reply, answer, refusal, nothing, refuse, ◌then◌}
-use Rattle.buffer.proofs.Cases.{and_left, and_right}
-use Rattle.registry.specs.Tree.{Tree, Limits}
-use Rattle.registry.specs.Store.{Store, limits_of, tree_of, sized}
+use Rattle.registry.specs.Tree.{Tree, Limits, Addition, add, wipe}
+use Rattle.registry.specs.Store.{Store, limits_of, tree_of, stored, sized}
 use Rattle.registry.specs.Sound.{sound, SoundStore}
-use Rattle.registry.specs.Calls.{written, on_tree, checked_reply}
-use Rattle.registry.specs.declared.check.Checked.{Checked}
-use Rattle.registry.specs.declared.check.Checked.TheVariants.{Sizes, UnsoundStore, Sound}
+use Rattle.registry.specs.Calls.{written, on_tree}
+use Rattle.registry.specs.Laws.{InRange, SoundTree}
+use Rattle.registry.proofs.layout.SizeLaws.{sized_is}
+use Rattle.registry.proofs.layout.SoundIsStored.{sound_tree}
+use Rattle.registry.proofs.layout.StoredIsSound.{stored_is_sound}
+use Rattle.registry.proofs.soundness.Rules.{sound_is}
+use Rattle.registry.proofs.soundness.OpenedIsSound.{empty_sound}
+use Rattle.registry.proofs.soundness.AddKeepsSound.{add_keeps_sound}
+use Rattle.registry.proofs.soundness.WipeKeepsSound.{wipe_keeps_sound}
 
--- the tests of the store find k
-abbrev pub TestsFind : Store → Checked → Type 0
-TestsFind s k = checked_reply k ≡ on_tree s (λ L t. answer tt)
+-- the tests of the store are replied to with r
+abbrev pub TestsFind : Store → Reply (Unit {0}) → Type 0
+TestsFind s r = r ≡ on_tree s (λ L t. answer tt)
 
 -- ---- from the tests
 
 module _ (s : Store) where
-  pub finds_sizes : sized s ≡ false → TestsFind s Sizes
+  pub finds_sizes : sized s ≡ false → TestsFind s (refusal 1 nothing)
   unfolding on_tree
   finds_sizes e = sym (rw e)
 
-  pub finds_unsound : sized s ≡ true → sound s ≡ false → TestsFind s UnsoundStore
+  pub finds_unsound : sized s ≡ true → sound s ≡ false → TestsFind s (refusal 2 nothing)
   unfolding on_tree
   finds_unsound e f = sym (rw (e, f))
 
-  pub finds_sound : SoundStore s → TestsFind s Sound
+  pub finds_sound : SoundStore s → TestsFind s (answer tt)
   unfolding on_tree
   finds_sound ok = sym (rw (ok.sizes, ok.rules))
 
@@ -43,31 +50,37 @@ on_tree_then s call = go (sized s) (sound s)
     go true false = refl
     go false b = refl
 
-module _ (s : Store) (k : Checked) (h : TestsFind s k) where
-  pub called : {A : Type 0} (call : Limits → Tree → Reply A) → (checked_reply k then λ u. call (limits_of s) (tree_of s)) ≡ on_tree s call
+module _ (s : Store) (r : Reply (Unit {0})) (h : TestsFind s r) where
+  pub called : {A : Type 0} (call : Limits → Tree → Reply A) → (r then λ u. call (limits_of s) (tree_of s)) ≡ on_tree s call
   called call = ap (λ (r : Reply (Unit {0})). r then λ u. call (limits_of s) (tree_of s)) h ∙ on_tree_then s call
 
   -- and the words that it leaves
   pub written_called : (call : Limits → Tree → Reply Tree)
-      → written s (limits_of s) (checked_reply k then λ u. call (limits_of s) (tree_of s)) ≡ written s (limits_of s) (on_tree s call)
+      → written s (limits_of s) (r then λ u. call (limits_of s) (tree_of s)) ≡ written s (limits_of s) (on_tree s call)
   written_called call = ap (written s (limits_of s)) (called call)
 
--- ---- to the rules
+-- ---- what is left is sound
 
-abbrev answered : Reply (Unit {0}) → Bool
-answered (answer u) = true
-answered (refusal n c) = false
+module _ (s : Store) (ok : SoundStore s) where
+  pub limits_in_range : InRange (limits_of s).rows (limits_of s).capacity
+  unfolding limits_of
+  limits_in_range = ((sized_is s).0 ok.sizes).range
 
-answered_is : (s : Store) → answered (on_tree s (λ L t. answer tt)) ≡ (sized s && sound s)
-unfolding on_tree
-answered_is s = go (sized s) (sound s)
-  where
-    go : (a b : Bool) → answered (refuse (not a) 1 nothing (refuse (not b) 2 nothing (answer tt))) ≡ (a && b)
-    go true true = refl
-    go true false = refl
-    go false b = refl
+  pub tree_sound : SoundTree (limits_of s) (tree_of s)
+  tree_sound = sound_tree s ((sized_is s).0 ok.sizes) ((sound_is s).0 ok.rules)
 
-pub found_sound : (s : Store) → TestsFind s Sound → SoundStore s
-found_sound s h =
-    let passed : (sized s && sound s) ≡ true = sym (ap answered h ∙ answered_is s) in
-    record { sizes = and_left (sized s) (sound s) passed; rules = and_right (sized s) (sound s) passed }
+  pub words_sound : (u : Tree) → SoundTree (limits_of s) u → SoundStore (stored (limits_of s) u)
+  words_sound u k = let e = stored_is_sound (limits_of s) u limits_in_range k in record { sizes = e.0; rules = e.1 }
+
+  written_sound : (r : Reply Tree) → ((u : Tree) → r ≡ answer u → SoundTree (limits_of s) u) → SoundStore (written s (limits_of s) r).store
+  written_sound (answer u) k = words_sound u (k u refl)
+  written_sound (refusal n c) k = ok
+
+  pub cleared_sound : SoundStore (stored (limits_of s) [])
+  cleared_sound = words_sound [] (empty_sound (limits_of s))
+
+  pub added_sound : (a : Addition) → a.child < 2 ^ 32 → a.parent < 2 ^ 32 → SoundStore (written s (limits_of s) (add (limits_of s) (tree_of s) a)).store
+  added_sound a c p = written_sound (add (limits_of s) (tree_of s) a) (λ u e. add_keeps_sound (limits_of s) (tree_of s) u a c p tree_sound e)
+
+  pub wiped_sound : (f i : ℕ) → SoundStore (written s (limits_of s) (wipe (tree_of s) f i)).store
+  wiped_sound f i = written_sound (wipe (tree_of s) f i) (λ u e. wipe_keeps_sound (limits_of s) (tree_of s) u f i tree_sound e)

@@ -2,7 +2,10 @@
 use Prim.Native.Nat.{ℕ, zero, suc, ◌+◌, ◌*◌, ◌≤◌, ◌<◌}
 use mathlib.Core.Path.{◌≡◌, refl, sym, ap, ◌∙◌, subst}
 use mathlib.Core.Bool.{Bool, true, false, ◌||◌}
-use Rattle.std.specs.Prelude.{None, Some}
+use Rattle.std.specs.Prelude.{None, Some, Result, Ok, Err, IsTrue, MatchResult, ◌↔◌}
+use Rattle.std.specs.Result.{result_unwrap_or}
+use Rattle.std.specs.List.{All}
+use Rattle.std.proofs.lemmas.List.{get_or_default}
 use mathlib.Core.List.{List}
 use native.Mathlib.Nat.{zero-add, suc-add}
 use native.Mathlib.Omega.{arith}
@@ -11,10 +14,9 @@ use lib.Seq.{get_or-set_same, get_or-set_other}
 use lib.Dec.{eqb, leb, ltb}
 use lib.Ieee.{Float}
 use borrow.Author.Tests.{eq-eqb, eqb-true, eqb-false, leb-true, leb-false, ltb-true, ltb-false}
-use Rattle.buffer.specs.Map.{all, get}
+use Rattle.buffer.specs.Map.{get}
 use Rattle.buffer.proofs.Cases.{both, none_some, false_true, bool_ext}
 use Rattle.buffer.proofs.Maps.{Rising}
-use Rattle.buffer.proofs.Alls.{all_at}
 use Rattle.registry.specs.Tree.{Edge, Tree, above, member}
 use Rattle.registry.specs.Store.{used_in, parent_in, row_at, tree_of}
 use Rattle.registry.specs.Sound.{climb, no_circle, NotAboveItself}
@@ -93,7 +95,7 @@ module _ (h : List ℕ) where
         let s = store_of h i p in
         climb_up (tree_of s) 0 (child_at h r) (row_at s r).1 (get_found s rows.rises (child_at h r) r (record { used = l; child = refl }))
 
-    pub up_row : (x : ℕ) → IsRow h (parent_in (head_of h) r) x → IsUp h 1 r x
+    up_row : (x : ℕ) → IsRow h (parent_in (head_of h) r) x → IsUp h 1 r x
     up_row x found = record {
       steps = 1;
       enough = omega arith;
@@ -101,13 +103,18 @@ module _ (h : List ℕ) where
       root = λ u i p. absurd (omega (arith, found.used));
     }
 
-    pub up_root : (k : ℕ) → AbsentAt h (parent_in (head_of h) r) k → IsUp h 1 r (used_in (head_of h))
+    up_root : (k : ℕ) → AbsentAt h (parent_in (head_of h) r) k → IsUp h 1 r (used_in (head_of h))
     up_root k absent = record {
       steps = 1;
       enough = omega arith;
       row = λ u i p. absurd (omega arith);
       root = λ u i p. let s = store_of h i p in ap (get (tree_of s)) (one_step i p) ∙ get_absent s (parent_in (head_of h) r) k absent;
     }
+
+    -- by what a search for the parent finds
+    pub up_found : (found : Result ℕ ℕ) → MatchResult found (IsRow h (parent_in (head_of h) r)) (AbsentAt h (parent_in (head_of h) r)) → IsUp h 1 r (result_unwrap_or found (used_in (head_of h)))
+    up_found (Ok x) m = up_row x m
+    up_found (Err k) m = up_root k m
 
   -- more steps, from the row that was come to
   up_on : (m r x y : ℕ) → x < used_in (head_of h) → IsUp h m r x → IsUp h m x y → IsUp h (m + m) r y
@@ -191,24 +198,24 @@ module _ (h : List ℕ) (rows : RisingRows h) (m : ℕ) (l : List ℕ) (a : Clim
   rises = (tree_rises (store_of h i p)).0 rows.rises
 
   -- every climb ends, so no frame is above itself
-  ended_apart : all (leb (length l)) l ≡ true → NotAboveItself t
+  ended_apart : All (λ x. length l ≤ x) l → NotAboveItself t
   ended_apart e k f = edge_or (get t f) (λ q. ends_apart t 0 f q k) child
     where
       child : (d : Edge) → get t f ≡ Some d → member f (above k t f) ≡ false
       child d q =
           let found = row_of (store_of h i p) f d q in
           let r : ℕ = found.0 in
-          let past : length l ≤ get_or l r 0 = leb-true _ _ ((all_at (leb (length l)) l 0).0 e r (omega (arith, a.size, found.1.used))) in
+          let past : length l ≤ get_or l r 0 = e r 0 (omega (arith, a.size, found.1.used)) in
           let up = a.up r found.1.used in
           ends_apart t up.steps f (ap (λ (x : ℕ). get t (climb up.steps t x)) (sym found.1.child) ∙ up.root (omega (arith, a.size)) i p) k
 
   -- without a circle every climb has ended
-  past_rows : no_circle t ≡ true → (r : ℕ) → r < length l → leb (length l) (get_or l r 0) ≡ true
-  past_rows e r u =
+  past_rows : no_circle t ≡ true → All (λ x. length l ≤ x) l
+  past_rows e r d u =
       let x : ℕ = get_or l r 0 in
       let up = a.up r (omega (arith, a.size)) in
       both (leb (length l) x)
-      (λ q. q)
+      (λ q. rw (get_or_default l r d 0 u) (leb-true (length l) x q))
       (λ q.
       let v : x < used_in (head_of h) = omega (arith, leb-false (length l) x q, a.size) in
       let at_row : get t (child_at h x) ≡ Some (row_at (store_of h i p) x).1 = get_found (store_of h i p) rows.rises (child_at h x) x (record { used = v; child = refl }) in
@@ -216,8 +223,8 @@ module _ (h : List ℕ) (rows : RisingRows h) (m : ℕ) (l : List ℕ) (a : Clim
       climb_past t (length t) up.steps (child_at h r) (omega (arith, length_tree (store_of h i p), up.enough)) (circle_grounded t rises e (child_at h r)) in
       absurd (none_some (sym ended ∙ ap (get t) (sym (up.row v i p)) ∙ at_row)))
 
-  pub ended_is : all (leb (length l)) l ≡ no_circle t
-  ended_is =
-      bool_ext (all (leb (length l)) l) (no_circle t)
-      (λ e. grounded_circle t rises (apart_grounded t (ended_apart e)))
-      (λ e. (all_at (leb (length l)) l 0).1 (past_rows e))
+  pub ended_is : (ended : Bool) → (IsTrue ended ↔ All (λ x. length l ≤ x) l) → ended ≡ no_circle t
+  ended_is ended e =
+      bool_ext ended (no_circle t)
+      (λ q. grounded_circle t rises (apart_grounded t (ended_apart (e.0 q))))
+      (λ q. e.1 (past_rows q))

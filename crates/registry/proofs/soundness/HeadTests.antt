@@ -6,13 +6,13 @@ use mathlib.Core.List.{List}
 use native.Mathlib.Omega.{arith}
 use lib.Dec.{eqb, ltb, leb}
 use lib.Ieee.{Float}
-use borrow.Author.Tests.{lt-ltb, le-ltb, le-leb, lt-leb, eq-eqb, ne_eqb, eqb-true, eqb-false}
+use borrow.Author.Tests.{le-leb, eqb-true, eqb-false}
 use Rattle.buffer.specs.Map.{all, rising}
-use Rattle.buffer.proofs.Cases.{both, bool_ext, and_both}
+use Rattle.buffer.proofs.Cases.{both, bool_ext}
 use Rattle.buffer.proofs.Maps.{rising_is}
 use Rattle.buffer.proofs.Alls.{all_at}
 use Rattle.registry.specs.Tree.{Edge}
-use Rattle.registry.specs.Store.{Store, rows_in, used_in, flag_in, age_word_in, child_in, parent_in, kind_in, row_at, tree_of}
+use Rattle.registry.specs.Store.{Store, rows_in, used_in, child_in, parent_in, kind_in, row_at, tree_of}
 use Rattle.registry.specs.Sound.{every, frames_fit, parents_differ, no_circle}
 use Rattle.registry.specs.Calls.{store_of}
 use Rattle.registry.specs.layout.Rows.{head_of, child_at, UsedRows, RisingRows}
@@ -27,7 +27,7 @@ use Rattle.registry.proofs.layout.TreeRows.{length_tree, tree_row, tree_rises}
 abbrev pub Neighbours : List ℕ → ℕ → Type 0
 Neighbours h n = (k : ℕ) → k < n → 0 < k → child_at h (k - 1) < child_at h k
 
-neighbours_rise : (h : List ℕ) (n : ℕ) → Neighbours h n → (j k : ℕ) → j < k → k < n → child_at h j < child_at h k
+pub neighbours_rise : (h : List ℕ) (n : ℕ) → Neighbours h n → (j k : ℕ) → j < k → k < n → child_at h j < child_at h k
 neighbours_rise h n b j zero l u = absurd (omega arith)
 neighbours_rise h n b j (suc k) l u =
     let step : child_at h k < child_at h (suc k) = let e : suc k - 1 ≡ k = omega arith in rw e at (b (suc k) u (omega arith)) in
@@ -113,51 +113,13 @@ head_sound_is s =
     ap (λ b. leb (used_in s) (rows_in s) && rising (tree_of s) && b && age_named s.head && no_circle (tree_of s)) (rows_fit_is s)
     ∙ regroup (leb (used_in s) (rows_in s)) (rising (tree_of s)) (frames_fit (tree_of s)) (parents_differ (tree_of s)) (no_circle (tree_of s)) (age_named s.head) (every (used_in s) (λ r. leb (kind_in s r) 1))
 
--- ---- the tests of one row, one by one
-
-module _ (h : List ℕ) (r : ℕ) where
-  pub child_wide : 4294967295 < child_in (head_of h) r → false ≡ row_fits h r
-  child_wide a = rw (le-ltb (child_in (head_of h) r) (2 ^ 32) (omega arith))
-
-  module _ (child : child_in (head_of h) r ≤ 4294967295) where
-    pub parent_wide : 4294967295 < parent_in (head_of h) r → false ≡ row_fits h r
-    parent_wide a = rw (lt-ltb (child_in (head_of h) r) (2 ^ 32) (omega arith), le-ltb (parent_in (head_of h) r) (2 ^ 32) (omega arith))
-
-    module _ (parent : parent_in (head_of h) r ≤ 4294967295) where
-      frames : (ltb (child_in (head_of h) r) (2 ^ 32) && ltb (parent_in (head_of h) r) (2 ^ 32)) ≡ true
-      frames = and_both _ _ (lt-ltb (child_in (head_of h) r) (2 ^ 32) (omega arith)) (lt-ltb (parent_in (head_of h) r) (2 ^ 32) (omega arith))
-
-      pub own_parent : parent_in (head_of h) r ≡ child_in (head_of h) r → false ≡ row_fits h r
-      own_parent e = rw (frames, eq-eqb (parent_in (head_of h) r) (child_in (head_of h) r) e)
-
-      pub kind_decides : (parent_in (head_of h) r ≡ child_in (head_of h) r → ⊥) → leb (kind_in (head_of h) r) 1 ≡ row_fits h r
-      kind_decides e = rw (frames, ne_eqb (parent_in (head_of h) r) (child_in (head_of h) r) e)
-
--- ---- the tests of the age
-
-module _ (h : List ℕ) where
-  pub flag_set : flag_in (head_of h) ≡ 1 → true ≡ age_named h
-  flag_set e = rw e
-
-  pub flag_clear : flag_in (head_of h) ≡ 0 → eqb (age_word_in (head_of h)) 0 ≡ age_named h
-  flag_clear e = rw e
-
-  pub flag_unnamed : (flag_in (head_of h) ≡ 1 → ⊥) → (flag_in (head_of h) ≡ 0 → ⊥) → false ≡ age_named h
-  flag_unnamed a b = rw (lt-leb (flag_in (head_of h)) 1 (omega arith))
-
 -- ---- the tests of the whole head, one by one
 
 module _ (s : Store) where
   first : {b : Bool} → b ≡ tests s → b ≡ head_sound s
   first e = e ∙ head_sound_is s
 
-  pub too_many : rows_in s < used_in s → false ≡ head_sound s
-  too_many l = first (rw (lt-leb (used_in s) (rows_in s) l))
-
   module _ (few : used_in s ≤ rows_in s) where
-    pub not_rising : rising (tree_of s) ≡ false → false ≡ head_sound s
-    not_rising e = first (rw (le-leb (used_in s) (rows_in s) few, e))
-
     module _ (rise : rising (tree_of s) ≡ true) where
       pub not_fitting : every (used_in s) (row_fits s.head) ≡ false → false ≡ head_sound s
       not_fitting e = first (rw (le-leb (used_in s) (rows_in s) few, rise, e))

@@ -32,7 +32,7 @@ module _ (s : Store) (ok : SoundStore s) where
   abbrev sizes : Sizes (rows_in s) (capacity_in s) s
   sizes = (sized_is s).0 ok.sizes
 
-  abbrev rules : Rules s
+  abbrev pub rules : Rules s
   rules = (sound_is s).0 ok.rules
 
   pub sound_header : HasHeader s.head

@@ -4,7 +4,13 @@ use Rattle.std.specs.Prelude.{Option}
 use Rattle.time.specs.Reply.{Reply, nothing, refuse, ◌then◌}
 use Rattle.geometry.specs.declared.isometry.Isometry.{Isometry}
 use Rattle.geometry.specs.Transform.{validate}
-use Rattle.registry.specs.Tree.{Edge, Tree, Limits, Addition, is_absent, ancestors, member, kind_of, other_parent, current_parent, other_kind}
+use Rattle.registry.specs.declared.addition.Addition.{Addition as Added}
+use Rattle.buffer.specs.Kind.{kind_of}
+use Rattle.registry.specs.Tree.{Edge, Tree, Limits, Addition, addition, is_absent, ancestors, member, other_parent, current_parent, other_kind}
+
+-- what the code's struct asks for
+abbrev pub addition_of : Added → Addition
+addition_of a = addition a.child a.parent a.stamp a.pose
 
 module _ {A : Type 0} where
   -- the tests of the pose and the frames: 3, 4, 5

@@ -1,17 +1,16 @@
 -- Latest common time, hop by hop, as the contracts of the private functions cite it. No public contract rests on these.
 use Rattle.std.specs.Prelude.{ℕ, min, cond, List, [], ◌∷◌, ltb}
-use Rattle.std.specs.Prelude.{Option, None, Some}
-use Rattle.time.specs.Reply.{Reply, answer, refusal, hop, refuse, ◌then◌}
+use Rattle.std.specs.Prelude.{Option, None, Some, option_map, Result}
+use Rattle.time.specs.Reply.{Reply, answer, refusal, hop, refuse, reply_by, ◌then◌}
 use Rattle.buffer.specs.declared.coverage.Coverage.{Coverage}
 use Rattle.buffer.specs.declared.coverage.Coverage.TheVariants.{AllTime, Range, Empty}
 use Rattle.buffer.specs.Samples.{coverage}
 use Rattle.registry.specs.declared.common_time.common.Span.{Span as SpanRead}
-use Rattle.registry.specs.declared.common_time.common.Common.{Common}
-use Rattle.registry.specs.declared.common_time.common.Common.TheVariants as common
-use Rattle.registry.specs.declared.common_time.common.Narrowed.{Narrowed}
-use Rattle.registry.specs.declared.common_time.common.Narrowed.TheVariants as narrower
+use Rattle.registry.specs.declared.common_time.common.Until.{Until}
+use Rattle.registry.specs.declared.error.RegistryError.{RegistryError}
 use Rattle.registry.specs.Answers.{Value, static, at}
 use Rattle.registry.specs.Path.{Hop, Span}
+use Rattle.registry.specs.Answers.{refusal_of}
 
 -- of the hops so far: nothing where none moves, else the earliest end and the first span with the latest start
 abbrev pub CommonSpan : Type 0
@@ -40,10 +39,8 @@ agreed (Some c) = refuse (ltb c.0 c.1.start) 12 (hop c.1.child (Some (c.1.start,
 abbrev pub span_of : SpanRead → Span
 span_of x = record { child = x.child; start = x.start; end = x.end }
 
-abbrev pub common_of : Common → CommonSpan
-common_of common.AllTime = None
-common_of (common.Until end late) = Some (end, span_of late)
+abbrev pub common_of : Option Until → CommonSpan
+common_of common = option_map (λ u. (u.end, span_of u.late)) common
 
-abbrev pub narrowed_reply : Narrowed → Reply CommonSpan
-narrowed_reply (narrower.To common) = answer (common_of common)
-narrowed_reply (narrower.Empty child) = refusal 12 (hop child None)
+abbrev pub narrowed_reply : Result (Option Until) RegistryError → Reply CommonSpan
+narrowed_reply r = reply_by refusal_of r then λ c. answer (common_of c)

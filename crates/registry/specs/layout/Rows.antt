@@ -6,9 +6,7 @@ use Rattle.buffer.specs.declared.kind.Kind.{Kind}
 use Rattle.buffer.specs.Map.{all, put, rising}
 use Rattle.buffer.specs.Samples.{Samples, insert, remove_before}
 use Rattle.buffer.specs.Words.{inserted}
-use Rattle.buffer.specs.Row.{Instants, Row, instant_words, pose_words}
-use Rattle.registry.specs.declared.search.Found.{Found}
-use Rattle.registry.specs.declared.search.Found.TheVariants.{At, Absent}
+use Rattle.buffer.specs.Row.{Row, instant_words, pose_words}
 use Rattle.registry.specs.Tree.{Edge, Tree}
 use Rattle.registry.specs.Store.{Store, head_length, instants_length, poses_length, row_floats, row_words, rows_in, capacity_in, used_in, limits_of, child_in, count_in, row_instants, row_poses, edge_at, with_used, tree_of, stored}
 use Rattle.registry.specs.Calls.{store_of}
@@ -65,11 +63,6 @@ pub record AbsentAt (h : List ℕ) (frame k : ℕ) : Type 0 where
   pub below : (j : ℕ) → j < k → child_at h j < frame
   pub above : (j : ℕ) → k ≤ j → j < used_in (head_of h) → frame < child_at h j
 
--- what a search for the frame finds
-abbrev pub Finds : List ℕ → ℕ → Found → Type 0
-Finds h frame (At r) = IsRow h frame r
-Finds h frame (Absent k) = AbsentAt h frame k
-
 -- the children of the first k rows are below the frame; that of row k, if it is used, is not
 pub record FirstRow (h : List ℕ) (frame k : ℕ) : Type 0 where
   pub used : k ≤ used_in (head_of h)
@@ -78,26 +71,10 @@ pub record FirstRow (h : List ℕ) (frame k : ℕ) : Type 0 where
 
 -- ---- rows with samples
 
--- row r lies within the head and the instants, and its held instants rise
-pub record HeldInstants (s : Store) (r : ℕ) : Type 0 where
-  pub head : HasRow r s.head
-  pub within : instants_length r (capacity_in s) + capacity_in s ≤ length s.instants
-  pub held : Instants (count_in s r) (row_instants s r)
-
 -- row r lies within the three slices, and its samples are those of a row
 pub record HeldRow (s : Store) (r : ℕ) : Type 0 where
   pub part : RowPart r s
   pub held : Row (count_in s r) (row_instants s r) (row_poses s r)
-
--- the rows of a head with their instants
-pub record InstantRows (h instants : List ℕ) : Type 0 where
-  pub rows : RisingRows h
-  pub held : (r : ℕ) → r < used_in (head_of h) → HeldInstants (store_of h instants []) r
-
--- the rows of a store with their samples
-pub record SampleRows (s : Store) : Type 0 where
-  pub rows : RisingRows s.head
-  pub held : (r : ℕ) → r < used_in s → HeldRow s r
 
 -- ---- a row put in
 

@@ -1,20 +1,13 @@
 -- Which edge of the tree has a frame, and what it gives, as the contracts of the private functions cite it. No public contract rests on these.
 use Rattle.std.specs.Prelude.{ℕ, List, Float}
 use Rattle.std.specs.Prelude.{Option, None, Some, option_map}
-use Rattle.time.specs.Reply.{Reply, answer, refusal, hop, ◌then◌}
+use Rattle.time.specs.Reply.{Reply, answer, ◌then◌}
 use Rattle.geometry.specs.declared.isometry.Isometry.{Isometry}
 use Rattle.buffer.specs.declared.coverage.Coverage.{Coverage}
 use Rattle.buffer.specs.Map.{get}
-use Rattle.buffer.specs.Samples.{served, coverage as coverageOf}
-use Rattle.registry.specs.declared.paths.edges.Parent.{Parent}
-use Rattle.registry.specs.declared.paths.edges.Parent.TheVariants as parent
-use Rattle.registry.specs.declared.paths.edges.HopPose.{HopPose}
-use Rattle.registry.specs.declared.paths.edges.HopPose.TheVariants as pose
-use Rattle.registry.specs.declared.paths.edges.HopCoverage.{HopCoverage}
-use Rattle.registry.specs.declared.paths.edges.HopCoverage.TheVariants as coverage
+use Rattle.buffer.specs.Samples.{served, coverage}
 use Rattle.registry.specs.Tree.{Edge, Tree}
 use Rattle.registry.specs.Store.{tree_of}
-use Rattle.registry.specs.Answers.{range_of}
 use Rattle.registry.specs.Calls.{store_of}
 
 -- P of the tree with this head, whatever its instants and poses
@@ -26,10 +19,6 @@ OfTree h P = (instants : List ℕ) (poses : List Float) → P (tree_of (store_of
 abbrev pub edge_parent : Tree → ℕ → Option ℕ
 edge_parent t f = option_map (λ e. e.parent) (get t f)
 
-abbrev pub parent_read : Parent → Option ℕ
-parent_read parent.Root = None
-parent_read (parent.Frame p) = Some p
-
 -- ---- the pose of a frame at an instant and its parent, none for a root; 11 where it is not served
 
 abbrev pub pose_of : ℕ → Option Edge → ℕ → Reply (Option (Isometry × ℕ))
@@ -39,16 +28,7 @@ pose_of f (Some e) i = served f e.kind e.samples i then λ p. answer (Some (p, e
 abbrev pub edge_pose : Tree → ℕ → ℕ → Reply (Option (Isometry × ℕ))
 edge_pose t f i = pose_of f (get t f) i
 
-abbrev pub pose_read : ℕ → HopPose → Reply (Option (Isometry × ℕ))
-pose_read f pose.Root = answer None
-pose_read f (pose.Pose p parent) = answer (Some (p, parent))
-pose_read f (pose.NotFoundAt range) = refusal 11 (hop f (range_of range))
-
 -- ---- the times at which a frame's edge is served and its parent, none for a root
 
 abbrev pub edge_coverage : Tree → ℕ → Option (Coverage × ℕ)
-edge_coverage t f = option_map (λ e. (coverageOf e.kind e.samples, e.parent)) (get t f)
-
-abbrev pub coverage_read : HopCoverage → Option (Coverage × ℕ)
-coverage_read coverage.Root = None
-coverage_read (coverage.Served c parent) = Some (c, parent)
+edge_coverage t f = option_map (λ e. (coverage e.kind e.samples, e.parent)) (get t f)

@@ -1,18 +1,18 @@
 -- The climbs from all rows at once, as the contracts of the private functions cite them. No public contract rests on these.
-use Rattle.std.specs.Prelude.{ℕ, zero, suc, ◌≤◌, ◌<◌, ◌≡◌, cond, List, ltb, length, get_or, set, Float}
+use Rattle.std.specs.Prelude.{ℕ, zero, suc, ◌≤◌, ◌<◌, ◌≡◌, cond, List, ltb, length, get_or, set}
 use Rattle.std.specs.Prelude.{None}
 use Rattle.buffer.specs.Map.{get}
-use Rattle.registry.specs.Store.{used_in, tree_of}
+use Rattle.registry.specs.Store.{used_in}
 use Rattle.registry.specs.Sound.{climb}
-use Rattle.registry.specs.Calls.{store_of}
 use Rattle.registry.specs.layout.Rows.{head_of, child_at}
+use Rattle.registry.specs.paths.Edges.{OfTree}
 
--- At least m steps up from row r lead to row x, or, where x is past the rows used, to a frame that is no child. (Poses and instants are no part of a climb.)
+-- At least m steps up from row r lead to row x, or, where x is past the rows used, to a frame that is no child.
 pub record IsUp (h : List ℕ) (m r x : ℕ) : Type 0 where
   pub steps : ℕ
   pub enough : m ≤ steps
-  pub row : x < used_in (head_of h) → (i : List ℕ) (p : List Float) → child_at h x ≡ climb steps (tree_of (store_of h i p)) (child_at h r)
-  pub root : used_in (head_of h) ≤ x → (i : List ℕ) (p : List Float) → get (tree_of (store_of h i p)) (climb steps (tree_of (store_of h i p)) (child_at h r)) ≡ None
+  pub row : x < used_in (head_of h) → OfTree h (λ t. child_at h x ≡ climb steps t (child_at h r))
+  pub root : used_in (head_of h) ≤ x → OfTree h (λ t. get t (climb steps t (child_at h r)) ≡ None)
 
 -- entry r of the list is where at least m steps up from row r lead
 pub record Climbed (h : List ℕ) (m : ℕ) (l : List ℕ) : Type 0 where

@@ -1,139 +1,112 @@
 // Latest common time of two frames of the tree.
-ghost use Rattle.std.specs.Prelude.{◌≡◌, List, ◌++◌, min, Float};
+ghost use Rattle.std.specs.Prelude.{◌≡◌, ◌++◌, Some};
 ghost use Rattle.time.specs.Reply.{refusal, nothing, ◌then◌};
 ghost use Rattle.registry.specs.Store.{tree_of};
-ghost use Rattle.registry.specs.Answers.{reply_of};
-ghost use Rattle.registry.specs.Calls.{store_of};
+ghost use Rattle.registry.specs.Calls.{words};
 ghost use Rattle.registry.specs.Path.{spans, meet};
-ghost use Rattle.registry.specs.paths.Walks.{hops_to, Walkable, ask_known};
+ghost use Rattle.registry.specs.Answers.{replied, told_time};
+ghost use Rattle.registry.specs.paths.Walks.{hops_to, ask_known};
 ghost use Rattle.registry.specs.common_time.Spans.{common_of, span_of, narrowed_reply, narrow, narrow_by, narrowed, agreed};
 
-use crate::answer::{Answer, Covered};
-use crate::paths::edges::HopCoverage;
-use crate::paths::{climbs, edges};
+use crate::checked::Checked;
+use crate::error::RegistryError;
 use buffer::coverage::Coverage;
+use time::stamp::Stamp;
 
 // A moving hop: its child, and its range from first to last instant.
-#[derive(Drop)]
+#[derive(Clone, Copy)]
 pub(crate) struct Span {
     pub(crate) child: u32,
     pub(crate) start: u64,
     pub(crate) end: u64,
 }
 
-// What the hops so far have in common: all time, or the earliest end of those that move and the
-// first of them with the latest start.
-#[derive(Drop)]
-pub(crate) enum Common {
-    AllTime,
-    Until { end: u64, late: Span },
+// What moving hops have in common: their earliest end, and the first of them with the latest start.
+#[derive(Clone, Copy)]
+pub(crate) struct Until {
+    pub(crate) end: u64,
+    pub(crate) late: Span,
 }
 
-// That, or the child of the first hop that is empty.
-#[derive(Drop)]
-pub(crate) enum Narrowed {
-    To(Common),
-    Empty(u32),
-}
-
-fn earliest(a: u64, b: u64) -> u64
-    ensures { result ≡ min a b }
+// One moving hop more. Where none moved before, all time was common.
+fn narrow(common: Option<Until>, span: Span) -> Until
+    ensures { common_of (Some result) ≡ narrow (common_of common) (span_of span) }
 {
-    if b < a {
-        return b;
-    }
-    a
-}
-
-// One moving hop more.
-fn narrow(common: Common, span: Span) -> Common
-    ensures { common_of result ≡ narrow (common_of common) (span_of span) }
-{
-    let Common::Until { end, late } = common else {
-        return Common::Until {
+    let Some(Until { end, late }) = common else {
+        return Until {
             end: span.end,
             late: span,
         };
     };
-    let end = earliest(end, span.end);
+    let end = end.min(span.end);
     if late.start < span.start {
-        return Common::Until { end, late: span };
+        return Until { end, late: span };
     }
-    Common::Until { end, late }
+    Until { end, late }
 }
 
-// One hop more.
-fn narrow_by(common: Common, child: u32, coverage: Coverage) -> Narrowed
+// One hop more, or its child where it is empty.
+fn narrow_by(
+    common: Option<Until>,
+    child: u32,
+    coverage: Coverage,
+) -> Result<Option<Until>, RegistryError>
     ensures { narrowed_reply result ≡ narrow_by (common_of common) child coverage }
 {
     match coverage {
-        Coverage::AllTime => Narrowed::To(common),
-        Coverage::Range { start, end } => Narrowed::To(narrow(common, Span { child, start, end })),
-        Coverage::Empty => Narrowed::Empty(child),
+        Coverage::AllTime => Ok(common),
+        Coverage::Range { start, end } => Ok(Some(narrow(common, Span { child, start, end }))),
+        Coverage::Empty => Err(RegistryError::NoCommonTime(child, None)),
     }
-}
-
-// The hops from the frame up to the frame `top`, or to the root.
-fn narrow_chain(head: &[u64], instants: &[u64], frame: u64, top: u64, common: Common) -> Narrowed
-    requires { Walkable head.now instants.now }
-    ensures { (poses : List Float) → narrowed_reply result
-        ≡ narrowed (common_of common) (hops_to (tree_of (store_of head.now instants.now poses)) frame top) }
-{
-    let mut at = frame;
-    let mut common_span = common;
-    while at != top {
-        let HopCoverage::Served(coverage, parent) = edges::coverage_of(head, instants, at) else {
-            return Narrowed::To(common_span);
-        };
-        let next = narrow_by(common_span, at as u32, coverage);
-        let Narrowed::To(narrower) = next else {
-            return next;
-        };
-        common_span = narrower;
-        at = parent;
-    }
-    Narrowed::To(common_span)
 }
 
 // The earliest end, where no hop starts after it.
-fn agreed(common: Common) -> Answer
-    ensures { reply_of result ≡ agreed (common_of common) }
+fn agreed(common: Option<Until>) -> Result<Stamp, RegistryError>
+    ensures { replied told_time result ≡ agreed (common_of common) }
 {
-    let Common::Until { end, late } = common else {
-        return Answer::Static;
+    let Some(Until { end, late }) = common else {
+        return Ok(Stamp::Static);
     };
     if end < late.start {
-        return Answer::NoCommonTime(
-            late.child,
-            Covered::Range {
-                start: late.start,
-                end: late.end,
-            },
-        );
+        return Err(RegistryError::NoCommonTime(late.child, Some((late.start, late.end))));
     }
-    Answer::At(end)
+    Ok(Stamp::At(end))
 }
 
-pub(crate) fn common_time_known(head: &[u64], instants: &[u64], target: u64, source: u64) -> Answer
-    requires { Walkable head.now instants.now }
-    ensures { (poses : List Float) → reply_of result
-        ≡ ask_known (tree_of (store_of head.now instants.now poses)) target source
-        (λ a b. spans (a ++ b) then meet) (λ a b. refusal 10 nothing) }
-{
-    let ends = climbs::climb_ends(head, target, source);
-    let target_end = ends.target;
-    let source_end = ends.source;
-    if target_end != source_end {
-        return Answer::Disconnected;
+impl Checked<'_> {
+    // The hops from the frame up to the frame `top`, or to the root.
+    fn narrow_chain(
+        &self,
+        frame: u64,
+        top: u64,
+        common: Option<Until>,
+    ) -> Result<Option<Until>, RegistryError>
+        ensures { narrowed_reply result
+            ≡ narrowed (common_of common) (hops_to (tree_of (words self.now.store)) frame top) }
+    {
+        let mut at = frame;
+        let mut common_span = common;
+        while at != top {
+            let Some((coverage, parent)) = self.coverage_of(at) else {
+                return Ok(common_span);
+            };
+            common_span = narrow_by(common_span, at as u32, coverage)?;
+            at = parent;
+        }
+        Ok(common_span)
     }
-    let climbed = narrow_chain(head, instants, target, target_end, Common::AllTime);
-    let common = match climbed {
-        Narrowed::To(common) => common,
-        Narrowed::Empty(child) => return Answer::NoCommonTime(child, Covered::Nothing),
-    };
-    let climbed = narrow_chain(head, instants, source, source_end, common);
-    match climbed {
-        Narrowed::To(common) => agreed(common),
-        Narrowed::Empty(child) => Answer::NoCommonTime(child, Covered::Nothing),
+
+    pub(crate) fn common_time_known(&self, target: u64, source: u64) -> Result<Stamp, RegistryError>
+        ensures { replied told_time result
+            ≡ ask_known (tree_of (words self.now.store)) target source
+            (λ a b. spans (a ++ b) then meet) (λ a b. refusal 10 nothing) }
+    {
+        let ends = self.rows().climb_ends(target, source);
+        if ends.target != ends.source {
+            return Err(RegistryError::Disconnected);
+        }
+        let target_common = self.narrow_chain(target, ends.target, None)?;
+        let common = self.narrow_chain(source, ends.source, target_common)?;
+        agreed(common)
     }
 }

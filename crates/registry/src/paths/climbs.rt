@@ -1,119 +1,105 @@
 // Where the climbs from two frames end.
-ghost use Rattle.std.specs.Prelude.{◌≡◌, true, length};
+ghost use Rattle.std.specs.Prelude.{◌≡◌, ◌<◌, true, length};
 ghost use Rattle.registry.specs.Tree.{ancestors};
 ghost use Rattle.registry.specs.Sound.{climb, no_circle};
 ghost use Rattle.registry.specs.Path.{climb_end};
-ghost use Rattle.registry.specs.layout.Rows.{RisingRows};
 ghost use Rattle.registry.specs.paths.Edges.{OfTree};
-ghost use Rattle.registry.specs.paths.Walks.{climb_to};
+ghost use Rattle.registry.specs.paths.Walks.{steps_to_root};
 
-use super::edges;
-use super::edges::Parent;
-use crate::layout;
-
-// The frame's parent, or the frame itself where it is no child.
-fn step_up(head: &[u64], frame: u64) -> u64
-    requires { RisingRows head.now }
-    ensures { OfTree head.now (λ t. result ≡ climb 1 t frame) }
-{
-    let Parent::Frame(parent) = edges::parent_of(head, frame) else {
-        return frame;
-    };
-    parent
-}
-
-// How a climb towards a frame ends: at that frame, or at the root, after so many steps.
-#[derive(Drop)]
-pub(crate) enum Climb {
-    Met,
-    Root(usize),
-}
-
-// From the frame up until the goal is met, by at most as many steps as there are rows.
-fn climb_to(head: &[u64], frame: u64, goal: u64) -> Climb
-    requires { RisingRows head.now }
-    ensures { OfTree head.now (λ t. result ≡ climb_to t frame goal) }
-{
-    let used = layout::used(head);
-    let mut at = frame;
-    let mut steps = 0;
-    while steps < used {
-        let Parent::Frame(parent) = edges::parent_of(head, at) else {
-            return Climb::Root(steps);
-        };
-        at = parent;
-        if at == goal {
-            return Climb::Met;
-        }
-        steps += 1;
-    }
-    Climb::Root(steps)
-}
+use crate::rows::Rows;
 
 // Where the climbs from two frames end: both at the frame where they meet, or each at its root.
-#[derive(Drop)]
+#[derive(Clone, Copy, Debug, PartialEq, Eq)]
 pub struct ClimbEnds {
     pub target: u64,
     pub source: u64,
 }
 
-// Of frames with so many frames above them: whichever lies deeper climbs, until they meet or are
-// both at a root.
-fn climb_both(
-    head: &[u64],
-    target: u64,
-    source: u64,
-    above_target: usize,
-    above_source: usize,
-) -> ClimbEnds
-    requires { RisingRows head.now
-        × OfTree head.now (λ t. above_target ≡ length (ancestors t target))
-        × OfTree head.now (λ t. above_source ≡ length (ancestors t source)) }
-    ensures { OfTree head.now (λ t. no_circle t ≡ true → (result.target ≡ climb_end t target source) × (result.source ≡ climb_end t source target)) }
-{
-    let mut f = target;
-    let mut g = source;
-    let mut above_f = above_target;
-    let mut above_g = above_source;
-    while f != g {
-        if above_f < above_g {
-            g = step_up(head, g);
-            above_g -= 1;
-        } else {
-            if above_f == 0 {
-                return ClimbEnds {
-                    target: f,
-                    source: g,
-                };
-            }
-            f = step_up(head, f);
-            above_f -= 1;
-        }
-    }
-    ClimbEnds {
-        target: f,
-        source: g,
-    }
+// A climb: the frame where it stands, and how many frames are above that.
+#[derive(Clone, Copy)]
+struct Climb {
+    frame: u64,
+    above: usize,
 }
 
-// Where one is above the other, that is the frame where they meet, and the climb to it suffices.
-pub(crate) fn climb_ends(head: &[u64], target: u64, source: u64) -> ClimbEnds
-    requires { RisingRows head.now }
-    ensures { OfTree head.now (λ t. no_circle t ≡ true → (result.target ≡ climb_end t target source) × (result.source ≡ climb_end t source target)) }
-{
-    let from_target = climb_to(head, target, source);
-    let Climb::Root(above_target) = from_target else {
-        return ClimbEnds {
-            target: source,
-            source,
+impl Rows<'_> {
+    // The steps of the climb from a frame to its root, none where it meets the goal. It takes at most
+    // as many steps as there are rows.
+    pub(crate) fn steps_to_root(&self, frame: u64, goal: u64) -> Option<usize>
+        ensures { OfTree self.now.head.now (λ t. result ≡ steps_to_root t frame goal) }
+    {
+        let used = self.used();
+        let mut at = frame;
+        for steps in 0..used {
+            let Some(parent) = self.parent_of(at) else {
+                return Some(steps);
+            };
+            at = parent;
+            if at == goal {
+                return None;
+            }
+        }
+        Some(used)
+    }
+
+    // The frame's parent, or the frame itself where it is no child.
+    fn step_up(&self, frame: u64) -> u64
+        ensures { OfTree self.now.head.now (λ t. result ≡ climb 1 t frame) }
+    {
+        self.parent_of(frame).unwrap_or(frame)
+    }
+
+    // Whichever climb has more frames above it goes on, until they meet or are both at a root.
+    fn climb_both(&self, target: Climb, source: Climb) -> ClimbEnds
+        requires { OfTree self.now.head.now (λ t. target.above ≡ length (ancestors t target.frame))
+            × OfTree self.now.head.now (λ t. source.above ≡ length (ancestors t source.frame)) }
+        ensures { OfTree self.now.head.now (λ t. no_circle t ≡ true → (result.target ≡ climb_end t target.frame source.frame) × (result.source ≡ climb_end t source.frame target.frame)) }
+    {
+        let mut f = target;
+        let mut g = source;
+        while f.frame != g.frame {
+            if f.above < g.above {
+                g.frame = self.step_up(g.frame);
+                g.above -= 1;
+            } else {
+                if f.above == 0 {
+                    break;
+                }
+                f.frame = self.step_up(f.frame);
+                f.above -= 1;
+            }
+        }
+        ClimbEnds {
+            target: f.frame,
+            source: g.frame,
+        }
+    }
+
+    // Where one is above the other, that is the frame where they meet, and the climb to it suffices.
+    pub(crate) fn climb_ends(&self, target: u64, source: u64) -> ClimbEnds
+        ensures { OfTree self.now.head.now (λ t. no_circle t ≡ true → (result.target ≡ climb_end t target source) × (result.source ≡ climb_end t source target)) }
+    {
+        let Some(above_target) = self.steps_to_root(target, source) else {
+            return ClimbEnds {
+                target: source,
+                source,
+            };
         };
-    };
-    let from_source = climb_to(head, source, target);
-    let Climb::Root(above_source) = from_source else {
-        return ClimbEnds {
-            target,
-            source: target,
+        let Some(above_source) = self.steps_to_root(source, target) else {
+            return ClimbEnds {
+                target,
+                source: target,
+            };
         };
-    };
-    climb_both(head, target, source, above_target, above_source)
+        self.climb_both(
+            Climb {
+                frame: target,
+                above: above_target,
+            },
+            Climb {
+                frame: source,
+                above: above_source,
+            },
+        )
+    }
 }

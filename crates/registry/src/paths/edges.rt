@@ -1,103 +1,86 @@
-// Which edge has a frame, and what it gives: its parent, its pose at an instant, the times at which it
+// Which edge has a frame, and what it gives: its pose at an instant, the times at which it
 // is served. A frame that is no child is a root.
-ghost use Rattle.std.specs.Prelude.{◌≡◌, List, [], Float, ℕ};
-ghost use Rattle.buffer.specs.Answers.{served_reply};
-ghost use Rattle.buffer.specs.Samples.{served, coverage};
-ghost use Rattle.registry.specs.Store.{edge_at, tree_of};
-ghost use Rattle.registry.specs.Calls.{store_of};
-ghost use Rattle.registry.specs.layout.Rows.{RisingRows, HeldInstants, HeldRow, InstantRows, SampleRows};
-ghost use Rattle.registry.specs.paths.Edges.{OfTree, parent_read, edge_parent, pose_read, edge_pose, coverage_read, edge_coverage};
+ghost use Rattle.std.specs.Prelude.{◌≡◌, ◌<◌};
+ghost use Rattle.time.specs.Reply.{reply_by};
+ghost use Rattle.buffer.specs.Answers.{refusal_of as hop_refusal_of};
+ghost use Rattle.buffer.specs.Buffers.{samples};
+ghost use Rattle.buffer.specs.Samples.{coverage};
+ghost use Rattle.registry.specs.Store.{used_in, edge_at, tree_of};
+ghost use Rattle.registry.specs.Calls.{words};
+ghost use Rattle.registry.specs.Answers.{refusal_of};
+ghost use Rattle.registry.specs.paths.Edges.{edge_pose, edge_coverage};
 
-use crate::answer::Covered;
-use crate::search::Found;
-use crate::{layout, search};
+use crate::checked::Checked;
+use crate::error::RegistryError;
+use buffer::buffer::Buffer;
 use buffer::coverage::Coverage;
-use buffer::get;
-use buffer::get::Served;
+use buffer::error::GetError;
 use geometry::isometry::Isometry;
 
-// A frame's parent.
-#[derive(Drop)]
-pub(crate) enum Parent {
-    Root,
-    Frame(u64),
-}
-
-pub(crate) fn parent_of(head: &[u64], frame: u64) -> Parent
-    requires { RisingRows head.now }
-    ensures { OfTree head.now (λ t. parent_read result ≡ edge_parent t frame) }
+// Why the hop of a child gives no pose.
+fn unserved(child: u32, cause: GetError) -> RegistryError
+    ensures { refusal_of result ≡ hop_refusal_of child cause }
 {
-    match search::find_row(head, frame) {
-        Found::At(row) => Parent::Frame(layout::parent_at(head, row)),
-        Found::Absent(_) => Parent::Root,
+    match cause {
+        GetError::NoTransformAvailable => RegistryError::NotFoundAt(child, None),
+        GetError::OutOfRange { start, end } => RegistryError::NotFoundAt(child, Some((start, end))),
+        GetError::Interpolation(cause) => cause.into(),
     }
 }
 
-// A frame's pose at an instant, which need not be finite, and its parent.
-#[derive(Drop)]
-pub(crate) enum HopPose {
-    Root,
-    Pose(Isometry, u64),
-    NotFoundAt(Covered),
-}
-
-// The pose of the edge that row r holds.
-fn row_pose(head: &[u64], instants: &[u64], poses: &[f64], r: usize, t: u64) -> Served
-    requires { HeldRow (store_of head.now instants.now poses.now) r }
-    ensures { (child : ℕ) → served_reply child result
-        ≡ (let e = edge_at (store_of head.now instants.now poses.now) r in served child e.kind e.samples t) }
-{
-    let capacity = layout::capacity(head) as usize;
-    let kind = layout::row_kind(head, r);
-    let count = layout::count_at(head, r) as usize;
-    let held_instants = layout::row_instants(instants, capacity, r);
-    let held_poses = layout::row_poses(poses, capacity, r);
-    get::serve(held_instants, held_poses, kind, count, t)
-}
-
-pub(crate) fn pose_of(head: &[u64], instants: &[u64], poses: &[f64], frame: u64, t: u64) -> HopPose
-    requires { SampleRows (store_of head.now instants.now poses.now) }
-    ensures { pose_read frame result ≡ edge_pose (tree_of (store_of head.now instants.now poses.now)) frame t }
-{
-    let Found::At(row) = search::find_row(head, frame) else {
-        return HopPose::Root;
-    };
-    match row_pose(head, instants, poses, row, t) {
-        Served::Pose(pose) => HopPose::Pose(pose, layout::parent_at(head, row)),
-        Served::OutOfRange { start, end } => HopPose::NotFoundAt(Covered::Range { start, end }),
-        Served::NoTransformAvailable => HopPose::NotFoundAt(Covered::Nothing),
-    }
-}
-
-// The times at which a frame's edge is served, and its parent.
-#[derive(Drop)]
-pub(crate) enum HopCoverage {
-    Root,
-    Served(Coverage, u64),
-}
-
-// The times of the edge that row r holds.
-pub(crate) fn row_coverage(head: &[u64], instants: &[u64], r: usize) -> Coverage
-    requires { HeldInstants (store_of head.now instants.now []) r }
-    ensures { (poses : List Float) → (let e = edge_at (store_of head.now instants.now poses) r in result ≡ coverage e.kind e.samples) }
-{
-    let capacity = layout::capacity(head) as usize;
-    let kind = layout::row_kind(head, r);
-    let count = layout::count_at(head, r) as usize;
-    Coverage::of(layout::row_instants(instants, capacity, r), kind, count)
-}
-
-pub(crate) fn coverage_of(head: &[u64], instants: &[u64], frame: u64) -> HopCoverage
-    requires { InstantRows head.now instants.now }
-    ensures { (poses : List Float) → coverage_read result ≡ edge_coverage (tree_of (store_of head.now instants.now poses)) frame }
-{
-    match search::find_row(head, frame) {
-        Found::At(row) => {
-            HopCoverage::Served(
-                row_coverage(head, instants, row),
-                layout::parent_at(head, row),
-            )
+impl Checked<'_> {
+    // The samples of the edge that row r holds.
+    pub(crate) fn row(&self, r: usize) -> Buffer<'_>
+        requires { r < used_in (words self.now.store) }
+        ensures kind { result.kind ≡ (edge_at (words self.now.store) r).kind }
+        ensures samples { samples result ≡ (edge_at (words self.now.store) r).samples }
+    {
+        let parts = self.parts();
+        let head = parts.head();
+        Buffer {
+            kind: head.kind(r),
+            count: head.count(r),
+            instants: parts.row_instants(r),
+            poses: parts.row_poses(r),
         }
-        Found::Absent(_) => HopCoverage::Root,
+    }
+
+    // A frame's pose at an instant and its parent; none for a root.
+    pub(crate) fn pose_of(
+        &self,
+        frame: u64,
+        t: u64,
+    ) -> Result<Option<(Isometry, u64)>, RegistryError>
+        ensures { reply_by refusal_of result ≡ edge_pose (tree_of (words self.now.store)) frame t }
+    {
+        let rows = self.rows();
+        let Ok(row) = rows.find_row(frame) else {
+            return Ok(None);
+        };
+        let child = frame as u32;
+        match self.row(row).serve(t) {
+            Ok(pose) => Ok(Some((pose, rows.parent(row)))),
+            Err(cause) => Err(unserved(child, cause)),
+        }
+    }
+
+    // The times at which the edge that row r holds is served.
+    pub(crate) fn row_coverage(&self, r: usize) -> Coverage
+        requires { r < used_in (words self.now.store) }
+        ensures { let e = edge_at (words self.now.store) r in result ≡ coverage e.kind e.samples }
+    {
+        self.row(r).coverage()
+    }
+
+    // The times at which a frame's edge is served and its parent; none for a root.
+    pub(crate) fn coverage_of(&self, frame: u64) -> Option<(Coverage, u64)>
+        ensures { result ≡ edge_coverage (tree_of (words self.now.store)) frame }
+    {
+        let rows = self.rows();
+        let Ok(row) = rows.find_row(frame) else {
+            return None;
+        };
+        let parent = rows.parent(row);
+        Some((self.row_coverage(row), parent))
     }
 }

@@ -1,37 +1,57 @@
 // The rule that there is no circle, by doubling: the row of each row's parent, then of its parent's
 // parent, and so on, until the steps are as many as the rows.
-ghost use Rattle.std.specs.Prelude.{◌≡◌, List, ℕ, ◌≤◌, ◌<◌, Float, leb, length};
-ghost use Rattle.buffer.specs.Map.{all};
-ghost use Rattle.registry.specs.Store.{used_in, tree_of};
+ghost use Rattle.std.specs.Prelude.{◌≡◌, ◌≤◌, ◌<◌, ◌↔◌, length, IsTrue};
+ghost use Rattle.std.specs.List.{All};
+ghost use Rattle.registry.specs.Store.{used_in};
 ghost use Rattle.registry.specs.Sound.{no_circle};
-ghost use Rattle.registry.specs.Calls.{store_of};
-ghost use Rattle.registry.specs.layout.Rows.{head_of, RisingRows};
+ghost use Rattle.registry.specs.layout.Rows.{head_of};
+ghost use Rattle.registry.specs.paths.Edges.{OfTree};
 ghost use Rattle.registry.specs.soundness.Climbs.{IsUp, Climbed, jump, jumped};
 
-use crate::search::Found;
-use crate::{layout, search};
+use crate::rows::Rows;
 
-// The row of the parent of row r, or the number of rows used where the parent is no child.
-fn parent_row(head: &[u64], r: usize) -> usize
-    requires { RisingRows head.now × (r < used_in (head_of head.now)) }
-    ensures { IsUp head.now 1 r result }
-{
-    let parent = layout::parent_at(head, r);
-    let Found::At(row) = search::find_row(head, parent) else {
-        return layout::used(head);
-    };
-    row
-}
+// The most rows of a store.
+const MOST_ROWS: usize = 256;
 
-// One step up from each row.
-fn parent_rows(head: &[u64], rows: &mut [usize])
-    requires { RisingRows head.now × (length rows.old ≡ used_in (head_of head.now)) }
-    ensures { Climbed head.now 1 rows.new }
-{
-    let mut r = 0;
-    while r < rows.len() {
-        rows[r] = parent_row(head, r);
-        r += 1;
+impl Rows<'_> {
+    // The row of the parent of row r, or the number of rows used where the parent is no child.
+    fn parent_row(&self, r: usize) -> usize
+        requires { r < used_in (head_of self.now.head.now) }
+        ensures { IsUp self.now.head.now 1 r result }
+    {
+        self.find_row(self.parent(r)).unwrap_or(self.used())
+    }
+
+    // One step up from each row.
+    fn parent_rows(&self, rows: &mut [usize])
+        requires { length rows.old ≡ used_in (head_of self.now.head.now) }
+        ensures { Climbed self.now.head.now 1 rows.new }
+    {
+        for (r, row) in rows.iter_mut().enumerate() {
+            *row = self.parent_row(r);
+        }
+    }
+
+    // Whether the climb from each row ends, with room for a number for each row.
+    fn climbs_end(&self, rows: &mut [usize]) -> bool
+        requires { length rows.old ≡ used_in (head_of self.now.head.now) }
+        ensures { OfTree self.now.head.now (λ t. result ≡ no_circle t) }
+    {
+        self.parent_rows(rows);
+        let mut steps = 1;
+        while steps < rows.len() {
+            double(rows);
+            steps *= 2;
+        }
+        all_ended(rows)
+    }
+
+    pub(crate) fn has_no_circle(&self) -> bool
+        requires { used_in (head_of self.now.head.now) ≤ MOST_ROWS }
+        ensures { OfTree self.now.head.now (λ t. result ≡ no_circle t) }
+    {
+        let mut rows = [0; MOST_ROWS];
+        self.climbs_end(&mut rows[..self.used()])
     }
 }
 
@@ -39,57 +59,21 @@ fn parent_rows(head: &[u64], rows: &mut [usize])
 fn jump(rows: &[usize], x: usize) -> usize
     ensures { result ≡ jump rows.now x }
 {
-    if x < rows.len() {
-        return rows[x];
-    }
-    x
+    rows.get(x).copied().unwrap_or(x)
 }
 
 // At least twice as many steps up from each row.
 fn double(rows: &mut [usize])
     ensures { rows.new ≡ jumped (length rows.old) rows.old }
 {
-    let mut r = 0;
-    while r < rows.len() {
-        let x = jump(rows, rows[r]);
-        rows[r] = x;
-        r += 1;
+    for r in 0..rows.len() {
+        rows[r] = jump(rows, rows[r]);
     }
 }
 
 // Whether no climb stands at a row.
 fn all_ended(rows: &[usize]) -> bool
-    ensures { result ≡ all (leb (length rows.now)) rows.now }
+    ensures { IsTrue result ↔ All (λ row. length rows.now ≤ row) rows.now }
 {
-    let mut r = 0;
-    while r < rows.len() {
-        if rows[r] < rows.len() {
-            return false;
-        }
-        r += 1;
-    }
-    true
-}
-
-// Whether the climb from each row ends, with room for a number for each row.
-fn climbs_end(head: &[u64], rows: &mut [usize]) -> bool
-    requires { RisingRows head.now × (length rows.old ≡ used_in (head_of head.now)) }
-    ensures { (instants : List ℕ) (poses : List Float) → result ≡ no_circle (tree_of (store_of head.now instants poses)) }
-{
-    parent_rows(head, rows);
-    let mut steps = 1;
-    while steps < rows.len() {
-        double(rows);
-        steps *= 2;
-    }
-    all_ended(rows)
-}
-
-pub(crate) fn no_circle(head: &[u64]) -> bool
-    requires { RisingRows head.now × (used_in (head_of head.now) ≤ 256) }
-    ensures { (instants : List ℕ) (poses : List Float) → result ≡ no_circle (tree_of (store_of head.now instants poses)) }
-{
-    let used = layout::used(head);
-    let mut rows = [0usize; 256];
-    climbs_end(head, &mut rows[..used])
+    rows.iter().all(|row| rows.len() <= *row)
 }

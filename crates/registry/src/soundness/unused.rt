@@ -1,23 +1,18 @@
 // The rule that every unused word is 0, positive zero for floats: the unused rows.
 ghost use Rattle.std.specs.Prelude.{◌≡◌};
 ghost use Rattle.registry.specs.Sound.{unused_rows_zero};
-ghost use Rattle.registry.specs.Calls.{store_of};
-ghost use Rattle.registry.specs.layout.Rows.{UsedParts};
+ghost use Rattle.registry.specs.Calls.{words};
 
-use crate::layout;
-use buffer::sound;
+use crate::parts::Parts;
+use crate::store::Store;
+use buffer::chunks::all_zero;
 
-pub(crate) fn unused_rows_zero(head: &[u64], instants: &[u64], poses: &[f64]) -> bool
-    requires { UsedParts (store_of head.now instants.now poses.now) }
-    ensures { result ≡ unused_rows_zero (store_of head.now instants.now poses.now) }
-{
-    let used = layout::used(head);
-    let capacity = layout::capacity(head) as usize;
-    if !sound::zero_words(layout::head_after(head, used)) {
-        return false;
+impl Parts<'_> {
+    pub(crate) fn unused_rows_zero(&self) -> bool
+        ensures { result ≡ unused_rows_zero (words self.now.store) }
+    {
+        all_zero(self.unused_head())
+            && all_zero(self.unused_instants())
+            && all_zero(self.unused_poses())
     }
-    if !sound::zero_words(layout::instants_after(instants, used, capacity)) {
-        return false;
-    }
-    sound::zero_floats(layout::poses_after(poses, used, capacity))
 }

@@ -1,23 +1,10 @@
-use Rattle.std.proofs.Common.{◌≡◌, ℕ, ◌+◌, leb, List, [], ◌∷◌, ◌++◌, length, sym, refl, ap, ◌∙◌, rules}
-use Rattle.buffer.specs.declared.coverage.Coverage.{Coverage}
-use Rattle.buffer.specs.Map.{keep}
-use Rattle.text.specs.Ascii.{ascii}
-use Rattle.text.specs.Writing.{number_text, written_all}
-use Rattle.text.proofs.Behind.{behind, none}
-use Rattle.registry.specs.Tree.{Tree}
-use Rattle.registry.specs.Store.{tree_of}
-use Rattle.registry.specs.Calls.{store_of}
-use Rattle.registry.specs.NextEdge.{edge_from, told}
-use Rattle.registry.specs.declared.checked.NextEdge.TheVariants as next
-use Rattle.registry.proofs.Held.{tree_rises, child_fits}
-use Rattle.console.specs.Edges.{coverage_texts, edge_texts}
-use Rattle.console.specs.Dot.{style_text, arrow_texts, arrows_texts}
-use Rattle.console.proofs.EdgesFrom.{Next, from_zero, edge_next, fewer, end_none}
+use Rattle.registry.specs.Edges.{edges_left}
+use Rattle.console.specs.Dot.{arrows_texts}
+use Rattle.console.specs.Reading.{tree_in}
+use Rattle.console.proofs.Turns.{Leads}
+use Rattle.console.proofs.ToldTexts.{told_arrows}
 use Rattle.console.proofs.dot.put_arrows.Given as goal
 
-abbrev pub invariant-loop-child : goal.invariant-loop-child
-invariant-loop-child l = let t = tree_of (store_of l.head l.instants l.poses) in
-    (length l.out ≡ length l.initial.out) × (written_all l.out l.to (arrows_texts (keep (leb l.from) t)) ≡ written_all l.initial.out l.at (arrows_texts t))
-
-abbrev pub decreases-loop-child : goal.decreases-loop-child
-decreases-loop-child l = length (keep (leb l.from) (tree_of (store_of l.head l.instants l.poses)))
+-- the arrows of the edges that are left are to be written
+abbrev pub invariant-loop-edge : goal.invariant-loop-edge
+invariant-loop-edge l = Leads l.fn.out l.out (arrows_texts (tree_in l.store)) (told_arrows (edges_left l.edge-iterator))

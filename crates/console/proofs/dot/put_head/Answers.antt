@@ -1,6 +1,5 @@
-use Rattle.text.proofs.Behind.{one, first}
-use Rattle.std.proofs.Common.{rules}
+use Rattle.console.proofs.Turns.{in_turn}
 use Rattle.console.proofs.dot.put_head.Goals as goal
 
 pub returns : goal.returns
-returns c = first _ _ _ _ _ _ _ c.write_bytes-first.ensures (first _ _ _ _ _ _ _ c.write_bytes-second.ensures (one _ _ _ _ c.write_bytes.ensures))
+returns c = search in_turn depth 20

@@ -1,20 +1,16 @@
-use Rattle.std.proofs.Common.{T, sym, ap, subst, rules}
-use lib.Ieee.{is_nan}
-use lib.Ieee.Bits.{is_false}
-use lib.Ieee.Compare.{differs_from_itself}
-use Rattle.libm.proofs.FloatBits.{not_nan}
-use Rattle.text.proofs.Behind.{one, first}
+use Rattle.std.proofs.Common.{sym, ◌∙◌}
 use Rattle.console.specs.Figures.{figure_texts}
+use Rattle.console.proofs.Turns.{in_turn}
 use Rattle.console.proofs.figures.put_figure.Goals as goal
 
+pub returns-then-is_nan : goal.returns-then-is_nan
+unfolding figure_texts
+returns-then-is_nan c = rw (sym c.is_nan.ensures.value ∙ c.if-is_nan.true) c.write_bytes.ensures
+
 pub returns-then-x : goal.returns-then-x
-unfolding figure_texts is_nan
-returns-then-x c = let x = c.args.x in rw (ap is_nan (differs_from_itself x (subst T (sym c.if-x.true) tt))) (one _ _ _ _ c.write_bytes.ensures)
-
-pub returns-then-x-2 : goal.returns-then-x-2
 unfolding figure_texts
-returns-then-x-2 c = let x = c.args.x in rw (is_false (is_nan x) (not_nan x c.if-x.false), c.if-x-2.true) (first _ _ _ _ _ _ _ c.write_bytes-next.ensures c.put_magnitude.ensures)
+returns-then-x c = rw (sym c.is_nan.ensures.value ∙ c.if-is_nan.false, c.if-x.true) (search in_turn depth 20)
 
-pub returns : goal.returns
+pub returns-else-x : goal.returns-else-x
 unfolding figure_texts
-returns c = let x = c.args.x in rw (is_false (is_nan x) (not_nan x c.if-x.false), c.if-x-2.false) c.put_magnitude-2.ensures
+returns-else-x c = rw (sym c.is_nan.ensures.value ∙ c.if-is_nan.false, c.if-x.false) c.put_magnitude-else-x.ensures

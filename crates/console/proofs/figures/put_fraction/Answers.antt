@@ -1,16 +1,16 @@
-use Rattle.std.proofs.Common.{◌≡◌, arith, rules}
-use Rattle.text.proofs.Behind.{one, first, none}
+use Rattle.std.proofs.Common.{◌≡◌, arith}
+use Rattle.text.specs.Digits.{digits}
 use Rattle.console.specs.Figures.{fraction_texts}
 use Rattle.console.proofs.Decimals.{behind_point}
+use Rattle.console.proofs.Turns.{in_turn, writes_none}
 use Rattle.console.proofs.figures.put_fraction.Goals as goal
 
-pub returns-then-last-lt1 : goal.returns-then-last-lt1
+pub returns-then-left-gt0 : goal.returns-then-left-gt0
 unfolding fraction_texts
-returns-then-last-lt1 c = let last = c.without_zeros-last.result in
-    let all : last.count ≡ 0 = omega arith in
-    rw (c.without_zeros-last.ensures, all) (none _ _)
+returns-then-left-gt0 c = let last = c.without_zeros-rest.result in rw (c.without_zeros-rest.ensures, behind_point last.1 last.0 c.if-left-gt0.true) (search in_turn depth 20)
 
-pub returns : goal.returns
-unfolding fraction_texts
-returns c = let last = c.without_zeros-last.result in
-    rw (c.without_zeros-last.ensures, behind_point last.count last.number (omega arith)) (first _ _ _ _ _ _ _ c.write_bytes-next.ensures (one _ _ _ _ c.write_last_digits.ensures))
+pub returns-else-left-gt0 : goal.returns-else-left-gt0
+unfolding fraction_texts digits
+returns-else-left-gt0 c = let last = c.without_zeros-rest.result in
+    let all : last.1 ≡ 0 = omega arith in
+    writes_none _ _ (rw (c.without_zeros-rest.ensures, all))

@@ -1,4 +1,4 @@
-use Rattle.std.proofs.Common.{arith, rules}
+use Rattle.std.proofs.Common.{arith}
 use Rattle.console.proofs.Rounding.{whole_small, near, below_million, a_million}
 use Rattle.console.proofs.figures.rounded.Goals as goal
 
@@ -8,5 +8,5 @@ returns-then-millionths-lt1000000 c = below_million _ _ _ c.whole_part-whole.ens
 pub overflow_add-result : goal.overflow_add-result
 overflow_add-result c = omega (arith, c.whole_part-whole.ensures, whole_small c.args.x)
 
-pub returns : goal.returns
-returns c = a_million _ _ _ c.whole_part-whole.ensures (near _ _ _ _ c.whole_part-whole.ensures c.nearest_u64_to_f64.ensures c.whole_part-millionths.ensures) c.if-millionths-lt1000000.false
+pub returns-else-millionths-lt1000000 : goal.returns-else-millionths-lt1000000
+returns-else-millionths-lt1000000 c = a_million _ _ _ c.whole_part-whole.ensures (near _ _ _ _ c.whole_part-whole.ensures c.nearest_u64_to_f64.ensures c.whole_part-millionths.ensures) c.if-millionths-lt1000000.false

@@ -1,10 +1,9 @@
-use Rattle.std.proofs.Common.{T, sym, subst}
-use lib.Ieee.{of_bits, neg}
-use Rattle.console.proofs.Rounding.{below_next}
+use Rattle.std.proofs.Common.{T, sym, subst, rules}
+use Rattle.std.specs.Float.Ieee.{neg, of_bits}
 use Rattle.console.specs.Figures.{whole_part}
+use Rattle.console.proofs.Rounding.{below_next}
 use Rattle.console.proofs.figures.whole_part.Goals as goal
 
--- `figures::whole_part` meets its contract, and truncates only what it has tested.
 pub truncating_f64_to_u64-requires : goal.truncating_f64_to_u64-requires
 unfolding of_bits neg
 truncating_f64_to_u64-requires c = record { lower_bound = subst T (sym c.if-x.true) tt; upper_bound = below_next c.args.x c.if-x-2.true }
@@ -13,10 +12,6 @@ pub returns-then-x-2 : goal.returns-then-x-2
 unfolding whole_part
 returns-then-x-2 c = rw (c.if-x.true, c.if-x-2.true) c.truncating_f64_to_u64.ensures
 
-pub returns-else-x-2 : goal.returns-else-x-2
-unfolding whole_part
-returns-else-x-2 c = rw (c.if-x.true, c.if-x-2.false)
-
 pub returns-else-x : goal.returns-else-x
 unfolding whole_part
-returns-else-x c = rw c.if-x.false
+returns-else-x c = search rules

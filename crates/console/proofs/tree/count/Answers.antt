@@ -1,40 +1,17 @@
-use Rattle.std.proofs.Common.{◌≡◌, ◌+◌, ◌^◌, ◌<◌, ◌≤◌, leb, length, sym, ap, ◌∙◌, arith, rules}
-use Rattle.buffer.specs.Map.{keep}
-use Rattle.text.proofs.Behind.{behind}
-use Rattle.registry.specs.Tree.{Tree}
-use Rattle.registry.proofs.NextEdge.{reads_through}
-use Rattle.registry.specs.Store.{tree_of}
-use Rattle.registry.specs.Calls.{store_of}
-use Rattle.registry.proofs.Held.{tree_rises, child_fits}
-use Rattle.console.proofs.EdgesFrom.{from_zero, Next, edge_next, fewer, end_none}
+use Rattle.std.proofs.Common.{length, ap, ◌∙◌, arith, inl}
+use Rattle.std.proofs.lemmas.Iterator.Consumers.{count_from_yields_List, YieldsList-from_first}
+use Rattle.registry.specs.Edges.{edges_left}
+use Rattle.console.specs.Reading.{tree_in}
+use Rattle.std.proofs.lemmas.List.{length-map}
+use Rattle.registry.specs.NextEdge.{told_edge}
+use Rattle.console.proofs.FewEdges.{few_edges}
 use Rattle.console.proofs.tree.count.Goals as goal
-use Rattle.buffer.specs.Samples.{first?}
 
-pub loop-child-init : goal.loop-child-init
-loop-child-init c = rw (from_zero _) (omega arith)
+pub count-requires-clause-fits : goal.count-requires-clause-fits
+count-requires-clause-fits c = let s = c.args.store.now in
+    let n = few_edges _ s.sound in
+    let told = ap length c.edges.ensures ∙ length-map (tree_in s) told_edge in
+    inl (omega arith)
 
-pub returns-in_default : goal.returns-in_default
-returns-in_default c =
-    let tree : Tree = tree_of (store_of c.args.head.now c.args.instants.now c.args.poses.now) in
-    let q = end_none tree c.loop-child.from (sym c.in_default.is ∙ c.edge_from.ensures) in
-    let e = rw q at c.loop-child.invariant.0 in
-    omega arith
-
-pub loop-child-smaller : goal.loop-child-smaller
-loop-child-smaller c =
-    let tree : Tree = tree_of (store_of c.args.head.now c.args.instants.now c.args.poses.now) in
-    let read : Next (tree) c.loop-child.from c.in-Edge.child c.in-Edge.parent c.in-Edge.count c.in-Edge.coverage = edge_next (tree) (tree_rises _ c.requires) _ _ _ _ _ (sym c.in-Edge.is ∙ c.edge_from.ensures) in
-    let fits : c.in-Edge.child < 2 ^ 32 = child_fits _ c.requires _ _ read.held in
-    rw (c.behind-from.ensures fits) (fewer _ _ _ _ _ _ read)
-
-pub loop-child-preserved : goal.loop-child-preserved
-loop-child-preserved c =
-    let tree : Tree = tree_of (store_of c.args.head.now c.args.instants.now c.args.poses.now) in
-    let read : Next (tree) c.loop-child.from c.in-Edge.child c.in-Edge.parent c.in-Edge.count c.in-Edge.coverage = edge_next (tree) (tree_rises _ c.requires) _ _ _ _ _ (sym c.in-Edge.is ∙ c.edge_from.ensures) in
-    let fits : c.in-Edge.child < 2 ^ 32 = child_fits _ c.requires _ _ read.held in
-    let from_le : c.loop-child.from ≤ c.in-Edge.child = (reads_through.held (tree) _ _ (ap first? read.left)).0 in
-    let i = c.loop-child.invariant in
-    let l = fits in
-    let m = from_le in
-    let e = rw read.left at i.0 in
-    rw (c.behind-from.ensures l) (omega arith)
+pub returns : goal.returns
+returns c = count_from_yields_List c.edges.result c.count.result c.count.ensures.ran (YieldsList-from_first (λ x. x) edges_left _ c.edges.ensures) ∙ length-map (tree_in c.args.store.now) told_edge

@@ -1,33 +1,17 @@
-use Rattle.std.proofs.Common.{◌≡◌, ◌-◌, ◌≤◌, length, sym, refl, ap, ◌∙◌, arith, rules}
-use Rattle.text.specs.Writing.{written_all}
-use Rattle.text.proofs.Behind.{behind}
-use Rattle.registry.specs.Tree.{Tree}
-use Rattle.registry.specs.Store.{tree_of}
-use Rattle.registry.specs.Calls.{store_of}
-use Rattle.console.specs.Tree.{roots_texts}
-use Rattle.console.specs.Walk.{found}
+use Rattle.std.proofs.Common.{sym, arith}
+use Rattle.console.specs.Reading.{tree_in}
+use Rattle.console.proofs.Turns.{leads_on, leads_end}
 use Rattle.console.proofs.Roots.{lowest_fits, roots_none, roots_more, roots_full}
 use Rattle.console.proofs.tree.put_roots.Goals as goal
 
-pub loop-k-init : goal.loop-k-init
-loop-k-init c = (refl, omega arith, refl)
-
 pub returns-in_default : goal.returns-in_default
-returns-in_default c =
-    let tree : Tree = tree_of (store_of c.args.head.now c.args.instants.now c.args.poses.now) in
-    roots_none tree _ c.loop-k.from _ _ c.loop-k-test.true (sym c.root_from.ensures ∙ ap found c.in_default.is) ∙ c.loop-k.invariant.2
+returns-in_default c = let l = c.loop in leads_end l.invariant (roots_none (tree_in c.args.store.now) l.counter l.from c.loop-test.true (sym c.in_default.ensures))
 
-pub loop-k-preserved : goal.loop-k-preserved
-loop-k-preserved c =
-    let tree : Tree = tree_of (store_of c.args.head.now c.args.instants.now c.args.poses.now) in
-    let q = sym c.root_from.ensures ∙ ap found c.in-Frame.is in (
-      search rules,
-      omega arith,
-      rw (c.behind-from.ensures (lowest_fits _ c.requires c.loop-k.from _ q))
-          (roots_more tree c.loop-k.k c.loop-k.from _ _ c.loop-k-test.true _ _ _ q c.put_root-to.ensures ∙ c.loop-k.invariant.2),
-    )
+pub overflow_add-from : goal.overflow_add-from
+overflow_add-from c = omega (arith, lowest_fits _ c.args.store.now.sound c.loop.from _ (sym c.in-Some.ensures))
+
+pub loop-preserved : goal.loop-preserved
+loop-preserved c = let l = c.loop in leads_on l.invariant (roots_more (tree_in c.args.store.now) l.counter l.from c.loop-test.true c.in-Some.root (sym c.in-Some.ensures)) c.put_root.ensures
 
 pub returns : goal.returns
-returns c =
-    let tree : Tree = tree_of (store_of c.args.head.now c.args.instants.now c.args.poses.now) in
-    roots_full tree c.loop-k.k c.loop-k.from _ _ c.loop-k-test.false ∙ c.loop-k.invariant.2
+returns c = let l = c.loop in leads_end l.invariant (roots_full (tree_in c.args.store.now) l.counter l.from c.loop-test.false)

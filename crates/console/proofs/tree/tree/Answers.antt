@@ -1,14 +1,9 @@
-use Rattle.std.proofs.Common.{rules}
-use Rattle.registry.proofs.Held.{found_sound}
 use Rattle.console.specs.Tree.{tree_texts}
 use Rattle.console.proofs.Told.{told_refused, told_tree}
 use Rattle.console.proofs.tree.tree.Goals as goal
 
-pub returns-in_default : goal.returns-in_default
-returns-in_default c = rw (← told_refused tree_texts _ c.check-checked.result c.check-checked.ensures c.in_default.not-Sound) c.put_refused.ensures
+pub returns-in-Ok : goal.returns-in-Ok
+returns-in-Ok c = rw (told_tree _ tree_texts c.in-Ok.ensures.tests, ← c.in-Ok.ensures.same) c.put_tree.ensures
 
-pub put_tree-requires : goal.put_tree-requires
-put_tree-requires c = found_sound _ (rw c.in-Sound.is at c.check-checked.ensures)
-
-pub returns : goal.returns
-returns c = rw (← told_tree tree_texts _ _ c.check-checked.ensures c.in-Sound.is) c.put_tree.ensures
+pub returns-in-Err : goal.returns-in-Err
+returns-in-Err c = rw (told_refused _ tree_texts _ _ c.in-Err.ensures.tests) c.put_refused.ensures

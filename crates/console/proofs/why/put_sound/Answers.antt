@@ -1,14 +1,12 @@
-use Rattle.std.proofs.Common.{◌∙◌, rules, eq-eqb, ne_eqb}
+use Rattle.std.proofs.Common.{◌∙◌}
 use Rattle.console.specs.Why.{tree_texts}
+use Rattle.console.proofs.Path.{unknown_by}
 use Rattle.console.proofs.why.put_sound.Goals as goal
 
-pub returns-then-number-eq9 : goal.returns-then-number-eq9
+pub returns-then-is_err_and : goal.returns-then-is_err_and
 unfolding tree_texts
-returns-then-number-eq9 c = rw (← (c.of_tree-seen.ensures ∙ c.get_transform-answer.ensures), ← c.number.ensures, eq-eqb _ 9 c.if-number-eq9.true) c.put_lookup.ensures
+returns-then-is_err_and c = rw (← c.get_transform-seen.ensures, unknown_by _ _ c.is_err_and.ensures ∙ c.if-is_err_and.true) c.put_lookup.ensures
 
-pub put_path-requires : goal.put_path-requires
-put_path-requires c = (c.requires, c.of_tree-seen.ensures ∙ c.get_transform-answer.ensures)
-
-pub returns : goal.returns
+pub returns-else-is_err_and : goal.returns-else-is_err_and
 unfolding tree_texts
-returns c = rw (← (c.of_tree-seen.ensures ∙ c.get_transform-answer.ensures), ← c.number.ensures, ne_eqb _ 9 c.if-number-eq9.false) c.put_path.ensures
+returns-else-is_err_and c = rw (← c.get_transform-seen.ensures, unknown_by _ _ c.is_err_and.ensures ∙ c.if-is_err_and.false) c.put_path.ensures

@@ -1,25 +1,12 @@
-use Rattle.std.proofs.Common.{◌∙◌, rules}
-use Rattle.text.proofs.Behind.{behind}
-use Rattle.registry.specs.Calls.{store_of}
-use Rattle.registry.proofs.Held.{found_sound}
 use Rattle.console.specs.Why.{why_texts}
-use Rattle.console.proofs.PathReplies.{refused_store, sound_store}
+use Rattle.console.proofs.Turns.{in_turn}
+use Rattle.console.proofs.Told.{tree_refused, tree_answered}
 use Rattle.console.proofs.why.why.Goals as goal
 
-pub returns-in_default : goal.returns-in_default
+pub returns-in-Ok : goal.returns-in-Ok
 unfolding why_texts
-returns-in_default c = let a = c.args in
-    rw (
-      ← refused_store a.target a.source a.t (store_of a.head.now a.instants.now a.poses.now) c.check-checked.result c.check-checked.ensures c.in_default.not-Sound,
-      ← (c.of_tree.ensures ∙ c.refused.ensures),
-    )
-    (behind _ _ _ _ _ _ _ c.put_question-next.ensures c.put_lookup.ensures)
+returns-in-Ok c = let a = c.args in rw (tree_answered _ c.in-Ok.ensures.tests, ← c.in-Ok.ensures.same) (search in_turn depth 20)
 
-pub put_sound-requires : goal.put_sound-requires
-put_sound-requires c = found_sound _ (rw c.in-Sound.is at c.check-checked.ensures)
-
-pub returns : goal.returns
+pub returns-in-Err : goal.returns-in-Err
 unfolding why_texts
-returns c = let a = c.args in
-    rw (← sound_store a.target a.source a.t (store_of a.head.now a.instants.now a.poses.now) (rw c.in-Sound.is at c.check-checked.ensures))
-    (behind _ _ _ _ _ _ _ c.put_question-next.ensures c.put_sound.ensures)
+returns-in-Err c = let a = c.args in rw (tree_refused _ _ _ c.in-Err.ensures.tests) (search in_turn depth 20)

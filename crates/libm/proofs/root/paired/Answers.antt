@@ -1,11 +1,9 @@
-use native.Mathlib.Omega.{arith}
+use Rattle.std.proofs.Common.{arith}
 use Rattle.libm.proofs.Split.{even_exponent, odd_exponent}
 use Rattle.libm.proofs.root.paired.Goals as goal
 
 pub returns-then-p-eq0 : goal.returns-then-p-eq0
-returns-then-p-eq0 c = let p = c.args.p in
-    (omega arith, omega arith, omega arith, even_exponent p.significand p.exponent c.if-p-eq0.true)
+returns-then-p-eq0 c = (omega arith, even_exponent c.args.p.significand c.args.p.exponent c.if-p-eq0.true)
 
 pub returns : goal.returns
-returns c = let p = c.args.p in
-    (omega arith, omega arith, omega arith, odd_exponent p.significand p.exponent c.if-p-eq0.false)
+returns c = (omega arith, odd_exponent c.args.p.significand c.args.p.exponent c.if-p-eq0.false)

@@ -1,10 +1,6 @@
-use mathlib.Core.Path.{◌≡◌}
-use Prim.Native.Nat.{◌-◌, ◌≤◌}
-use Rattle.libm.specs.Enclosure.{run}
+use Rattle.std.proofs.Common.{◌≡◌, fold}
+use Rattle.libm.proofs.Series.{turn}
 use Rattle.libm.proofs.terms.steps.Given as goal
 
-abbrev pub invariant-loop-k : goal.invariant-loop-k
-invariant-loop-k l = (l.to ≤ l.k) × (l.k ≤ 48) × (run (l.k - l.to) l.to l.least l.low ≡ run (l.from - l.to) l.to l.least l.initial.low) × (run (l.k - l.to) l.to l.most l.high ≡ run (l.from - l.to) l.to l.most l.initial.high)
-
-abbrev pub decreases-loop-k : goal.decreases-loop-k
-decreases-loop-k l = l.k
+abbrev pub invariant-loop-numerator : goal.invariant-loop-numerator
+invariant-loop-numerator l = (l.low ≡ fold (λ h r. turn l.squares.low h r.now) l.initial.low l.yielded) × (l.high ≡ fold (λ h r. turn l.squares.high h r.now) l.initial.high l.yielded)

@@ -1,17 +1,15 @@
-use mathlib.Core.Path.{refl, ap, ◌∙◌}
-use native.Mathlib.Omega.{arith}
+use Rattle.std.proofs.Common.{ap, ◌∙◌}
+use Rattle.std.proofs.lemmas.Iterator.Adapters.{YieldsList-from_rev_slice}
+use Rattle.std.proofs.lemmas.Iterator.Consumers.{YieldsList-end}
 use Rattle.time.specs.Float.{◌⊗◌}
 use Rattle.libm.specs.Libm.{sin}
-use Rattle.libm.proofs.Series.{sin_step, sin_end}
+use Rattle.libm.proofs.Series.{sin_over}
+use Rattle.libm.proofs.Table.{rows}
 use Rattle.libm.proofs.trig.sin.Goals as goal
 
-pub loop-k-init : goal.loop-k-init
-loop-k-init c = (omega arith, refl)
-
-pub loop-k-preserved : goal.loop-k-preserved
-loop-k-preserved c = (omega arith, sin_step c.loop-k.k c.args.a c.loop-k.s c.denominator.result c.loop-k-test.true c.denominator.ensures ∙ c.loop-k.invariant.1)
-
 pub returns : goal.returns
-unfolding sin
-returns c = let a = c.args.a in
-    ap (◌⊗◌ a) (sin_end c.loop-k.k a c.loop-k.s c.loop-k-test.false ∙ c.loop-k.invariant.1)
+unfolding sin rows
+returns c =
+    let l = c.loop-denominator in
+    let (all, n) = YieldsList-end (YieldsList-from_rev_slice (rows 1 10) cc) l.yielded _ l.yielded_by _ _ c.in-None.is c.next.ensures.steps in
+    ap (◌⊗◌ c.args.a) (l.invariant ∙ sin_over c.args.a l.yielded all)

@@ -1,67 +1,61 @@
-use Prim.Native.Nat.{ℕ, ◌+◌}
-use mathlib.Core.Path.{◌≡◌, refl, sym, ap, ◌∙◌, subst}
-use mathlib.Core.List.{[]}
 use Rattle.std.specs.Prelude.{Some}
+use Rattle.std.proofs.Common.{◌≡◌, refl, sym, ap, ◌∙◌, inl, length}
 use native.Mathlib.Omega.{arith}
-use Rattle.time.specs.Reply.{answer}
-use Rattle.registry.specs.Store.{Store, limits_of, stored}
-use Rattle.registry.specs.Sound.{SoundStore}
-use Rattle.registry.specs.Answers.{done, reply_of}
-use Rattle.registry.specs.Calls.{store_of}
-use Rattle.registry.specs.declared.answer.Answer.TheVariants as answers
-use Rattle.registry.proofs.ReplyInjective.{reply_injective}
-use Rattle.map_file.proofs.ByteLists.{bytes_known}
-use Rattle.map_loading.proofs.Adding.{Adding, adding_first, adding_room, adding_within, adding_cleared, adding_ends, adding_refused, adding_next}
+use Rattle.std.specs.declared.iter.Enumerate.{Enumerate}
+use Rattle.std.specs.Iterator.Adapters.{enumerate_source, enumerate_count}
+use Rattle.time.specs.Reply.{refusal}
+use Rattle.registry.specs.Answers.{refusal_of, replied, told_done}
+use Rattle.registry.specs.Calls.{outcome_of}
+use Rattle.map_file.specs.Reads.{record_of}
+use Rattle.map_file.specs.Files.{records_left, records_of}
+use Rattle.map_file.specs.declared.records.Records.{Records}
+use Rattle.map_file.proofs.Placed.{all_counted}
+use Rattle.map_loading.proofs.Adding.{adding_first, adding_room, adding_ends, adding_refused, adding_next}
+use Rattle.map_loading.proofs.Turns.{Taken, taken, none_left, same_over}
 use Rattle.map_loading.proofs.records.add_records.Goals as goal
 
 pub loop-k-init : goal.loop-k-init
-loop-k-init c = (
-  adding_first c.args.map.now (store_of c.args.head.now c.args.instants.now c.args.poses.now) c.args.count c.args.places.now (bytes_known c.args.map.now c.type_inv.map)
-      c.type_inv.poses c.requires.sound_store.0 c.requires.sound_store.1 c.requires.map_value.0 c.requires.map_value.1,
-  refl,
-  refl,
-  refl,
-)
+loop-k-init c =
+    let start = c.into_iter-k-iterator.ensures.into_iter_gives in
+    let count : enumerate_count c.into_iter-k-iterator.result ≡ 0 = ap enumerate_count start ∙ c.enumerate-k-items.ensures.count in
+    let left : records_left (enumerate_source c.into_iter-k-iterator.result) ≡ records_of c.args.file =
+    ap (λ (i : Enumerate Records). records_left (enumerate_source i)) start ∙ ap records_left c.enumerate-k-items.ensures.source ∙ c.records.ensures in (
+      (tt, tt, inl (omega (arith, count, ap length left, all_counted c.records.result, c.records.type_inv, ap length c.records.ensures))),
+      tt,
+      refl,
+      record { head = refl; instants = refl; poses = refl },
+      adding_first _ _ c.requires.floats c.args.store.now.sound c.requires.empty _ c.new-names.ensures _ left _ count,
+    )
 
-pub add_record-added-requires : goal.add_record-added-requires
-add_record-added-requires c = record {
-  sound_store = (c.loop-k.invariant.0.held.checked, adding_within c.loop-k.invariant.0 c.loop-k-test.true);
-  places_fit = (c.loop-k.invariant.0.table, adding_room c.loop-k.invariant.0);
-}
+pub add_record-requires : goal.add_record-requires
+add_record-requires c = adding_room c.loop-k.invariant.4
 
-pub clear-requires : goal.clear-requires
-clear-requires c =
-    let r = reply_of c.add_record-added.result.answer in
-    let after = store_of c.add_record-added.new.head c.add_record-added.new.instants c.add_record-added.new.poses in
-    let refused : r ≡ answer done → ⊥ = λ e. c.in_default.not-Done (reply_injective c.add_record-added.result.answer answers.Done e) in
-    let as_before = adding_refused c.loop-k.invariant.0 c.loop-k-test.true (record { reply = r; store = after }) c.add_record-added.ensures.poses_after refused in
-    subst SoundStore (sym as_before.0) c.loop-k.invariant.0.held.checked
+pub overflow_cast-result : goal.overflow_cast-result
+overflow_cast-result c =
+    let turn : Taken c.loop-k.k-iterator c.in-Some.k c.in-Some.record c.next.new.self = taken _ _ _ _ c.in-Some.ensures.steps in
+    omega (arith, turn.number, ap length turn.left, c.loop-k.invariant.4.number, all_counted c.records.result, c.records.type_inv, ap length c.records.ensures)
 
-pub returns-in_default : goal.returns-in_default
-returns-in_default c =
-    let r = reply_of c.add_record-added.result.answer in
-    let after = store_of c.add_record-added.new.head c.add_record-added.new.instants c.add_record-added.new.poses in
-    let refused : r ≡ answer done → ⊥ = λ e. c.in_default.not-Done (reply_injective c.add_record-added.result.answer answers.Done e) in
-    let as_before = adding_refused c.loop-k.invariant.0 c.loop-k-test.true (record { reply = r; store = after }) c.add_record-added.ensures.poses_after refused in
-    let cleared = c.clear.ensures ∙ ap (λ (s : Store). stored (limits_of s) []) as_before.0 ∙ adding_cleared c.loop-k.invariant.0 in
-    ap (λ (s : Store). record { record? = Some c.loop-k.k; reply = r; store = s }) cleared ∙ sym as_before.1
-
-pub behind_record-at-requires : goal.behind_record-at-requires
-behind_record-at-requires c = adding_within c.loop-k.invariant.0 c.loop-k-test.true
+pub returns-in-Err : goal.returns-in-Err
+returns-in-Err c =
+    let turn : Taken c.loop-k.k-iterator c.in-Some.k c.in-Some.record c.next.new.self = taken _ _ _ _ c.in-Some.ensures.steps in
+    let left = adding_refused c.loop-k.invariant.4 (record_of c.in-Some.record) _ turn.left (outcome_of c.add_record.result c.add_record.new.store.store.now) c.add_record.ensures.outcome _ _ (ap (replied told_done) c.in-Err.is) in
+    let store = c.clear.ensures.words ∙ left.0 in
+    record {
+      same = c.clear.ensures.same ∙ c.add_record.ensures.same ∙ c.loop-k.invariant.2;
+      slices = same_over c.loop-k.invariant.3 (same_over c.add_record.ensures.slices c.clear.ensures.slices);
+      outcome = (λ i. record { record? = Some (turn.number i); reply = refusal (refusal_of c.in-Err.error).0 (refusal_of c.in-Err.error).1; store = store i }) ∙ sym left.1;
+    }
 
 pub loop-k-preserved : goal.loop-k-preserved
 loop-k-preserved c =
-    let d = c.add_record-added in
-    let after = store_of d.new.head d.new.instants d.new.poses in
-    let is_done : reply_of d.result.answer ≡ answer done = ap reply_of c.in-Done.is in
-    let behind = d.ensures.table in
-    let next = adding_next c.loop-k.invariant.0 c.loop-k-test.true (record { reply = reply_of d.result.answer; store = after }) d.ensures.poses_after is_done _ _ behind.fits behind.names (omega (arith, c.loop-k.invariant.0.room, d.auto.places)) in (
-      subst (λ (at : ℕ). Adding c.args.map.now (store_of c.args.head.now c.args.instants.now c.args.poses.now) c.args.count after d.new.places at d.result.used (c.loop-k.k + 1))
-          (sym c.behind_record-at.ensures) next,
-      omega (arith, c.loop-k.invariant.1, d.auto.head),
-      omega (arith, c.loop-k.invariant.2, d.auto.instants),
-      omega (arith, c.loop-k.invariant.3, d.auto.poses),
+    let turn : Taken c.loop-k.k-iterator c.in-Some.k c.in-Some.record c.next.new.self = taken _ _ _ _ c.in-Some.ensures.steps in
+    let next = adding_next c.loop-k.invariant.4 (record_of c.in-Some.record) _ turn.left (outcome_of c.add_record.result c.add_record.new.store.store.now) c.add_record.ensures.outcome _ c.add_record.ensures.names _ turn.counted (ap (replied told_done) c.in_default.is) in (
+      (tt, tt, inl (omega (arith, next.number, all_counted c.records.result, c.records.type_inv, ap length c.records.ensures))),
+      tt,
+      c.add_record.ensures.same ∙ c.loop-k.invariant.2,
+      same_over c.loop-k.invariant.3 c.add_record.ensures.slices,
+      next,
     )
 
 pub returns : goal.returns
-returns c = sym (adding_ends c.loop-k.invariant.0 c.loop-k-test.false)
+returns c = record { same = c.loop-k.invariant.2; slices = c.loop-k.invariant.3; outcome = sym (adding_ends c.loop-k.invariant.4 (none_left c.loop-k.k-iterator c.next.new.self c.in-None.ensures.steps)) }

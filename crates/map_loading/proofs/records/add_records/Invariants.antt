@@ -1,14 +1,13 @@
-use Prim.Native.Nat.{◌-◌}
-use mathlib.Core.Path.{◌≡◌}
-use lib.ListN.{length}
-use Rattle.registry.specs.Calls.{store_of}
+use Rattle.std.proofs.Common.{◌≡◌}
+use Rattle.std.specs.Iterator.Adapters.{enumerate_source, enumerate_count}
+use Rattle.registry.specs.Calls.{words_mut, SameSlices}
+use Rattle.map_file.specs.Files.{records_left, records_of}
+use Rattle.map_loading.specs.Numbering.{names_of}
 use Rattle.map_loading.proofs.Adding.{Adding}
 use Rattle.map_loading.proofs.records.add_records.Given as goal
 
--- `map_loading::records::add_records` meets its contract. The invariant of its loop is in Adding.antt.
+-- those that are left are still to be added
 abbrev pub invariant-loop-k : goal.invariant-loop-k
-invariant-loop-k l = Adding l.map (store_of l.initial.head l.initial.instants l.initial.poses) l.count (store_of l.head l.instants l.poses) l.places l.at l.used l.k
-    × (length l.head ≡ length l.initial.head) × (length l.instants ≡ length l.initial.instants) × (length l.poses ≡ length l.initial.poses)
-
-abbrev pub decreases-loop-k : goal.decreases-loop-k
-decreases-loop-k l = l.count - l.k
+invariant-loop-k l = (goal.iterator-loop-k).can_next l.k-iterator × (goal.iterator-loop-k).is_finite l.k-iterator
+    × (l.store.store.ghost_name ≡ l.fn.store.store.ghost_name) × SameSlices l.fn.store.store.now l.store.store.now
+    × Adding (words_mut l.fn.store.store.now) (records_of l.fn.file) (words_mut l.store.store.now) (names_of l.names) (records_left (enumerate_source l.k-iterator)) (enumerate_count l.k-iterator)

@@ -1,26 +1,18 @@
 use mathlib.Core.Path.{◌≡◌, sym, ◌∙◌}
-use mathlib.Core.Bool.{true}
+use mathlib.Core.Bool.{true, ◌&&◌}
+use Rattle.buffer.proofs.Cases.{and_left, and_right}
 use Rattle.registry.proofs.layout.RowLaws.{poses_small}
 use Rattle.transforms_c.specs.Lengths.{rows_fit, capacity_fits}
 use Rattle.transforms_c.proofs.Areas.{few_rows_lem, few_samples}
 use Rattle.transforms_c.proofs.lengths.transforms_poses_len.Goals as goal
 
-pub returns-then-not-rows_fit : goal.returns-then-not-rows_fit
-returns-then-not-rows_fit c = rw (sym c.rows_fit.ensures ∙ c.if-not-rows_fit.true)
-
-pub returns-then-not-samples_fit : goal.returns-then-not-samples_fit
-returns-then-not-samples_fit c =
-    let rows : rows_fit c.args.rows ≡ true = sym c.rows_fit.ensures ∙ c.if-not-rows_fit.false in
-    rw (rows, sym c.samples_fit.ensures ∙ c.if-not-samples_fit.true)
+pub returns-then-not-sizes_fit : goal.returns-then-not-sizes_fit
+returns-then-not-sizes_fit c = rw (sym c.sizes_fit.ensures ∙ c.if-not-sizes_fit.true)
 
 pub poses_length-requires : goal.poses_length-requires
 poses_length-requires c =
-    let rows : rows_fit c.args.rows ≡ true = sym c.rows_fit.ensures ∙ c.if-not-rows_fit.false in
-    let samples : capacity_fits c.args.samples ≡ true = sym c.samples_fit.ensures ∙ c.if-not-samples_fit.false in
-    poses_small _ _ (few_rows_lem _ rows) (few_samples _ samples)
+    let fit : (let a = c.args in (rows_fit a.rows && capacity_fits a.samples) ≡ true) = sym c.sizes_fit.ensures ∙ c.if-not-sizes_fit.false in
+    poses_small _ _ (few_rows_lem _ (and_left _ _ fit)) (few_samples _ (and_right (rows_fit c.args.rows) _ fit))
 
 pub returns : goal.returns
-returns c =
-    let rows : rows_fit c.args.rows ≡ true = sym c.rows_fit.ensures ∙ c.if-not-rows_fit.false in
-    let samples : capacity_fits c.args.samples ≡ true = sym c.samples_fit.ensures ∙ c.if-not-samples_fit.false in
-    rw (rows, samples) c.poses_length.ensures
+returns c = rw (sym c.sizes_fit.ensures ∙ c.if-not-sizes_fit.false) c.poses_length.ensures

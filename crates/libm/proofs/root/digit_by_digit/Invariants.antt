@@ -1,8 +1,0 @@
-use Rattle.libm.proofs.RootDigits.{Turn}
-use Rattle.libm.proofs.root.digit_by_digit.Given as goal
-
-abbrev pub invariant-loop-bit : goal.invariant-loop-bit
-invariant-loop-bit l = Turn l.n l.root l.rest l.bit
-
-abbrev pub decreases-loop-bit : goal.decreases-loop-bit
-decreases-loop-bit l = l.bit

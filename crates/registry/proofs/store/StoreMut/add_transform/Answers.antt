@@ -1,0 +1,28 @@
+use mathlib.Core.Path.{ap, subst, ◌∙◌}
+use Rattle.time.specs.Reply.{Reply, answer}
+use Rattle.registry.specs.Tree.{Tree, Limits, add, addition}
+use Rattle.registry.specs.Store.{Store}
+use Rattle.registry.specs.Sound.{SoundStore}
+use Rattle.registry.specs.Calls.{words, words_mut, on_tree, add_of}
+use Rattle.registry.proofs.Errors.{passed_written}
+use Rattle.registry.proofs.soundness.Called.{written_called}
+use Rattle.registry.proofs.store.StoreMut.add_transform.Goals as goal
+
+pub returns-in_err-check-clause-outcome : goal.returns-in_err-check-clause-outcome
+unfolding add_of
+returns-in_err-check-clause-outcome c =
+    let asked : Limits → Tree → Reply Tree = λ L t. add L t (addition c.args.child c.args.parent c.args.stamp c.args.pose) in
+    passed_written c.from_residual.result c.in_err-check.field-0.0 c.args.self.now c.from_residual.ensures.1
+    ∙ written_called (words_mut c.args.self.now) _ (c.in_err-check.ensures.tests ∙ ap (λ (s : Store). on_tree s (λ L t. answer tt)) c.as_ref.ensures.words) asked
+
+pub add-requires : goal.add-requires
+add-requires c =
+    let checked = c.in_ok-check.field-0 in
+    subst SoundStore (ap words c.in_ok-check.ensures.same ∙ c.as_ref.ensures.words) checked.sound
+
+pub returns-clause-outcome : goal.returns-clause-outcome
+unfolding add_of
+returns-clause-outcome c =
+    let asked : Limits → Tree → Reply Tree = λ L t. add L t (addition c.args.child c.args.parent c.args.stamp c.args.pose) in
+    c.add.ensures.outcome
+    ∙ written_called (words_mut c.args.self.now) _ (c.in_ok-check.ensures.tests ∙ ap (λ (s : Store). on_tree s (λ L t. answer tt)) c.as_ref.ensures.words) asked

@@ -1,5 +1,0 @@
--- Each turn leaves fewer.
-use Rattle.transforms.proofs.input.read_all.Given as goal
-
-abbrev pub decreases-loop-turns : goal.decreases-loop-turns
-decreases-loop-turns g l = l.turns

@@ -1,6 +1,0 @@
-use mathlib.Core.Path.{ap, ◌∙◌}
-use Rattle.transforms_c.specs.Flat.{flat_pose}
-use Rattle.transforms_c.proofs.poses.transforms_mul.Goals as goal
-
-pub returns : goal.returns
-returns c = c.flat_pose.ensures ∙ ap flat_pose c.mul.ensures

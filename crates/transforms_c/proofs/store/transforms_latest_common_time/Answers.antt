@@ -1,6 +1,0 @@
-use mathlib.Core.Path.{ap, ◌∙◌}
-use Rattle.transforms_c.specs.Flat.{flat}
-use Rattle.transforms_c.proofs.store.transforms_latest_common_time.Goals as goal
-
-pub returns : goal.returns
-returns c = c.flat.ensures ∙ ap flat c.latest_common_time.ensures
