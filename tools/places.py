@@ -57,7 +57,7 @@ def enums(text):
 
 def functions(text):
     """(line, name, parameters, clauses) of each function."""
-    for m in re.finditer(r"^ *(?:#\[.*\]\s*)?(?:pub(?:\(crate\))? )?(?:extern \"C\" )?fn (\w+)(?:<[^>]*>)?\((.*?)\)(.*?)^( *)(?:\{|where)", text, re.M | re.S):
+    for m in re.finditer(r"^ *(?:pub(?:\(crate\))? )?(?:extern \"C\" )?fn (\w+)(?:<[^>]*>)?\((.*?)\)(.*?)^( *)(?:\{|where)", text, re.M | re.S):
         yield line_of(text, m.start(1)), m.group(1), m.group(2), m.group(3)
 
 

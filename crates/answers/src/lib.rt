@@ -1,5 +1,5 @@
 // The answers of the text protocol: the text of what is replied, in a lent buffer.
-// No public function has a `requires`.
+// No public function has a `requires`. By functions of a Writer and not by `Display`, for the reason that stands there.
 #![tactic(auto, using(text::proofs::Behind::written_in_turn))]
 
 mod maps;

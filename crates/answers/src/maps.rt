@@ -41,14 +41,8 @@ pub fn write_loaded(w: &mut Writer<'_>, loaded: Result<(), LoadError>)
 {
     match loaded {
         Ok(()) => w.write_bytes(b"done"),
-        Err(LoadError::Store(error)) => write::write_error(w, error),
-        Err(LoadError::StoreInUse) => write::write_refusal(
-            w,
-            LoadError::StoreInUse.number(),
-            Carried::Nothing,
-        ),
-        Err(LoadError::MapForm) => write_map_form(w),
         Err(LoadError::Record(n, error)) => write_record(w, n, error),
+        Err(error) => write::write_refusal(w, error.number(), error.carried()),
     }
 }
 

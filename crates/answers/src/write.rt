@@ -146,8 +146,5 @@ pub fn write_common_time(w: &mut Writer<'_>, time: Result<Stamp, RegistryError>)
 pub fn write_posed(w: &mut Writer<'_>, posed: Result<Isometry, TransformError>)
     ensures { Writes w.old w.new (reply_texts (told_pose (reply_by transform_refusal_of posed))) }
 {
-    match posed {
-        Ok(pose) => write_pose(w, pose),
-        Err(error) => write_error(w, RegistryError::from(error)),
-    }
+    write_lookup(w, posed.map_err(RegistryError::from));
 }

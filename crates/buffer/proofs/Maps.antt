@@ -184,10 +184,6 @@ module _ {A : Type 0} where
           let b = ne_eqb k x.0 (λ e. omega arith) in
           rw (a, b, a, b) (ap {B = Map A} (λ r. x ∷ r) ih)
 
-  pub keep_all : (ok : ℕ → Bool) (m : Map A) → all (λ x. ok x.0) m ≡ true → keep ok m ≡ m
-  keep_all ok [] h = refl
-  keep_all ok (x ∷ m) h = rw (and_left (ok x.0) _ h) (ap {B = Map A} (λ r. x ∷ r) (keep_all ok m (and_right (ok x.0) _ h)))
-
   pub keep_keep : (p q : ℕ → Bool) (m : Map A) → keep p (keep q m) ≡ keep (λ k. q k && p k) m
   keep_keep p q [] = refl
   keep_keep p q (x ∷ m) =

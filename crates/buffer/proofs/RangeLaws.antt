@@ -1,21 +1,14 @@
 -- A row's range and coverage: from the first instant held to the newest.
-use Prim.Native.Nat.{ℕ, ◌≤◌}
-use mathlib.Core.Path.{◌≡◌, refl, sym, ap, ◌∙◌}
+use Prim.Native.Nat.{ℕ}
+use mathlib.Core.Path.{◌≡◌, ap}
 use mathlib.Core.Bool.{Bool, true, false, ◌&&◌}
 use Rattle.std.specs.Prelude.{Option, None, Some}
-use mathlib.Core.List.{[], ◌∷◌}
-use native.Mathlib.Omega.{arith}
+use mathlib.Core.List.{◌∷◌}
 use lib.Dec.{leb}
-use borrow.Author.Tests.{le-leb}
 use Rattle.geometry.specs.declared.isometry.Isometry.{Isometry}
-use Rattle.buffer.specs.declared.kind.Kind.TheVariants.{Dynamic}
 use Rattle.buffer.specs.declared.coverage.Coverage.{Coverage}
 use Rattle.buffer.specs.declared.coverage.Coverage.TheVariants.{AllTime, Range, Empty}
-use Rattle.buffer.specs.Map.{get}
-use Rattle.buffer.specs.Samples.{Samples, newest, range, coverage, last?, first?}
-use Rattle.buffer.proofs.Cases.{none_some, and_both}
-use Rattle.buffer.proofs.Maps.{Rising, get_head}
-use Rattle.buffer.proofs.SampleLaws.{newest_top, newest_last, newest_held, first_least}
+use Rattle.buffer.specs.Samples.{Samples, newest, range}
 
 -- an instant is in a range, if there is one
 abbrev pub within : Option (ℕ × ℕ) → ℕ → Bool
@@ -26,10 +19,6 @@ abbrev pub covers : Coverage → ℕ → Bool
 covers AllTime t = true
 covers (Range start end) t = leb start t && leb t end
 covers Empty t = false
-
-pub covers_within : (m : Samples) (t : ℕ) → covers (coverage Dynamic m) t ≡ within (range m) t
-covers_within [] t = refl
-covers_within (x ∷ m) t = refl
 
 pub range_parts : (x : ℕ × Isometry) (m : Samples) (a b : ℕ) → range (x ∷ m) ≡ Some (a, b) → (x.0 ≡ a) × (newest (x ∷ m) ≡ b)
 range_parts x m a b e =

@@ -1,7 +1,7 @@
 -- What an insertion, expiry and a wipe do to a row's samples, and their first and newest instants.
-use Prim.Native.Nat.{ℕ, suc, ◌<◌, ◌≤◌, ◌-◌, max}
+use Prim.Native.Nat.{ℕ, ◌≤◌, ◌-◌, max}
 use mathlib.Core.Path.{◌≡◌, refl, sym, ap, ◌∙◌}
-use mathlib.Core.Bool.{Bool, true, false, cond, ◌&&◌}
+use mathlib.Core.Bool.{Bool, true, false, cond}
 use Rattle.std.specs.Prelude.{Option, None, Some}
 use mathlib.Core.List.{[], ◌∷◌}
 use native.Mathlib.Omega.{arith}
@@ -13,8 +13,8 @@ use Rattle.buffer.specs.declared.kind.Kind.{Kind}
 use Rattle.buffer.specs.declared.kind.Kind.TheVariants.{Static, Dynamic}
 use Rattle.buffer.specs.Map.{all, get, put, keep}
 use Rattle.buffer.specs.Samples.{Samples, newest, survives, expire, insert, remove_before, last?}
-use Rattle.buffer.proofs.Cases.{both, none_some, false_true, and_both, and_left, and_right, bool_ext, Tri, less, same, more, tri}
-use Rattle.buffer.proofs.Maps.{Rising, rising_put, rising_keep, get_put, get_keep, get_floor, ext, keep_all, keep_keep, keep_put_dropped, length_put_le, length_keep_le}
+use Rattle.buffer.proofs.Cases.{both, none_some, Tri, less, same, more, tri}
+use Rattle.buffer.proofs.Maps.{Rising, rising_put, rising_keep, get_put, get_keep, get_floor, ext, length_keep_le}
 use Rattle.buffer.proofs.Alls.{all_weaken, all_put, all_keep, all_kept, all_get}
 
 -- every sample survives the newest

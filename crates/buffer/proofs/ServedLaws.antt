@@ -5,8 +5,6 @@ use mathlib.Core.Bool.{Bool, true, false}
 use Rattle.std.specs.Prelude.{Option, None, Some}
 use mathlib.Core.List.{List, [], ◌∷◌, ◌++◌}
 use native.Mathlib.Omega.{arith}
-use lib.ListN.{length, get_or, take, drop}
-use lib.Seq.{split_at, drop-cons}
 use lib.Dec.{leb, ltb}
 use borrow.Author.Tests.{lt-ltb, le-ltb, ne_eqb, le-leb, leb-true, leb-false}
 use Rattle.time.specs.Float.{◌⊘◌}
@@ -19,7 +17,6 @@ use Rattle.buffer.specs.declared.kind.Kind.{Kind}
 use Rattle.buffer.specs.declared.kind.Kind.TheVariants.{Static, Dynamic}
 use Rattle.buffer.specs.Map.{get, keep}
 use Rattle.buffer.specs.Samples.{Samples, newest, range, last?, between_samples, served, first?}
-use Rattle.geometry.specs.Transform.{passes}
 use Rattle.buffer.proofs.Cases.{both, none_some, false_true, and_both, and_left, and_right, Tri, less, same, more, tri}
 use Rattle.buffer.proofs.Maps.{Floor, Rising, get_floor, get_here, get_there}
 use Rattle.buffer.proofs.RangeLaws.{within}
@@ -197,12 +194,6 @@ pub served_refuses : (child : ℕ) (k : Kind) (m : Samples) (t : ℕ) → Rising
 served_refuses child Static [] t r s = served_empty child Static t
 served_refuses child Static (x ∷ m) t r s = absurd (false_true (sym s))
 served_refuses child Dynamic m t r s = served_outside child m t r s
-
-pub served_passes : (child : ℕ) (k : Kind) (m : Samples) (t : ℕ) → Rising m → passes (served child k m t) ≡ serves k m t
-served_passes child k m t r =
-    both (serves k m t)
-    (λ e. ap passes (served_answers child k m t r e).1 ∙ sym e)
-    (λ e. ap passes (served_refuses child k m t r e) ∙ sym e)
 
 -- no other refusal, so never 15
 pub served_refusal : (child : ℕ) (k : Kind) (m : Samples) (t n : ℕ) (c : Carried) → Rising m → served child k m t ≡ refusal n c

@@ -1,33 +1,25 @@
 -- What `row_sound` says of a row, as facts about its samples, and what keeps it: insertion, a static pose replaced, a wipe.
 use Prim.Native.Nat.{ℕ, suc, ◌*◌, ◌≤◌}
-use mathlib.Core.Path.{◌≡◌, refl, sym, subst, ◌∙◌}
+use mathlib.Core.Path.{◌≡◌, refl, sym, subst}
 use mathlib.Core.Logic.{◌↔◌}
-use mathlib.Core.Bool.{Bool, true, false, ◌&&◌, not}
-use Rattle.std.specs.Prelude.{Option, Some}
+use mathlib.Core.Bool.{true, ◌&&◌}
+use Rattle.std.specs.Prelude.{Option}
 use mathlib.Core.List.{List, [], ◌∷◌}
 use native.Mathlib.Omega.{arith}
 use lib.ListN.{length}
 use lib.Dec.{eqb, leb}
-use lib.Ieee.{Float, lt}
+use lib.Ieee.{Float}
 use borrow.Author.Tests.{eqb-true, le-leb, leb-true}
-use Rattle.time.specs.Reply.{answer, Carried, norm, nothing, refuse}
-use Rattle.time.specs.Float.{◌⊖◌, one64, abs}
 use Rattle.geometry.specs.declared.isometry.Isometry.{Isometry}
-use Rattle.geometry.specs.Vector3 as vector
-use Rattle.geometry.specs.Quaternion as quaternion
-use Rattle.geometry.specs.Transform.{tolerance, validate, passes}
 use Rattle.buffer.specs.declared.kind.Kind.{Kind}
 use Rattle.buffer.specs.declared.kind.Kind.TheVariants.{Static, Dynamic}
-use Rattle.buffer.specs.Map.{all, get, rising}
-use Rattle.buffer.specs.Samples.{Samples, insert, remove_before, coverage, served}
-use Rattle.buffer.specs.Row.{instant_words, pose_words, samples_of, instants_sound, poses_sound, unused_zero, row_sound, Row, FloatsFit}
+use Rattle.buffer.specs.Map.{all, rising}
+use Rattle.buffer.specs.Samples.{Samples}
+use Rattle.buffer.specs.Row.{instant_words, pose_words, samples_of, instants_sound, poses_sound, unused_zero, row_sound, Row}
 use Rattle.buffer.proofs.Cases.{false_true, and_both, and_left, and_right}
 use Rattle.buffer.proofs.Maps.{Rising, rising_is}
-use Rattle.buffer.proofs.Alls.{all_get}
-use Rattle.buffer.proofs.SampleLaws.{Fresh, survives_zero, rising_insert, fresh_insert, all_insert, insert_single, rising_remove_before, fresh_remove_before, all_remove_before, length_remove_before_le}
-use Rattle.buffer.proofs.RangeLaws.{covers, covers_within}
-use Rattle.buffer.proofs.ServedLaws.{serves, served_passes}
-use Rattle.buffer.proofs.RowBack.{length_samples_of, length_instant_words, read_back, words_unused, instants_are, poses_are}
+use Rattle.buffer.proofs.SampleLaws.{Fresh, survives_zero}
+use Rattle.buffer.proofs.RowBack.{length_samples_of, length_instant_words, read_back, words_unused}
 
 -- a static row holds one sample, at instant 0
 abbrev pub Single : Kind → Samples → Type 0

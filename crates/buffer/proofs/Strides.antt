@@ -4,7 +4,7 @@ use mathlib.Core.List.{List, [], ◌∷◌, ◌++◌, append_assoc}
 use Prim.Native.Nat.{ℕ, zero, suc, ◌+◌, ◌-◌, ◌*◌, ◌≤◌, ◌<◌}
 use native.Mathlib.Nat.{mul-suc, mul-zero, add_comm, mul-le-mul_left, sub-zero, zero-sub, suc-sub-suc}
 use native.Mathlib.Omega.{arith}
-use lib.ListN.{length, set, take, drop, replicate, length-append, length-take, length-drop, length-set, length-replicate, replicate-append-replicate}
+use lib.ListN.{length, set, take, drop, replicate, length-append, length-take, length-drop, length-set, replicate-append-replicate}
 use lib.Seq.{take-append-add, drop-append-add, take-append-le, drop-append-le, take_at, drop_at, take-nil, drop-nil, set_split}
 use Rattle.buffer.specs.Words.{replaced, inserted, removed}
 use Rattle.buffer.specs.Row.{concat_map, padded}

@@ -13,7 +13,8 @@ fn zero_chunk<T: Zero>(chunk: &[T]) -> bool
     chunk.iter().fold(0, |bits, x| bits | x.bits()) == 0
 }
 
-// Whether every element is zero.
+// Whether every element is zero. By parts: a loop over `chunks` would have the same test, and its proof a lemma more, that
+// the chunks together are the slice.
 pub fn all_zero<T: Zero>(s: &[T]) -> bool
     ensures { result ≡ all T.is_zero s.now }
 {
@@ -39,7 +40,7 @@ fn rising_chunk(chunk: &[u64]) -> bool
     rising
 }
 
-// Whether the numbers strictly rise. Neighbouring chunks share an element.
+// Whether the numbers strictly rise. Neighbouring chunks share an element, so they are not those of `chunks`.
 pub(crate) fn rising(s: &[u64]) -> bool
     ensures { result ≡ ascending s.now }
 {

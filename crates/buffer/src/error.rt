@@ -25,6 +25,7 @@ pub enum GetError {
     Interpolation(TransformError),
 }
 
+// By hand: the derive's `#[from]` has no contract.
 impl From<TransformError> for GetError {
     ghost use Rattle.buffer.specs.declared.error.GetError.TheVariants as get;
 

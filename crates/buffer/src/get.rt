@@ -71,11 +71,6 @@ impl Buffer<'_> {
     pub fn get(&self, t: u64) -> Result<Isometry, GetError>
         ensures { (child : ℕ) → reply_by (refusal_of child) result ≡ query child self.now.kind (samples self.now) t }
     {
-        let pose = self.serve(t)?;
-        if pose.is_finite() {
-            Ok(pose)
-        } else {
-            Err(TransformError::NonFiniteValues.into())
-        }
+        Ok(self.serve(t)?.finite()?)
     }
 }

@@ -44,7 +44,7 @@ pub(crate) fn read_pose(poses: &[f64], place: usize) -> Isometry
     pose_of(&poses[place])
 }
 
-// As an array, since a slice copied over it takes its way over the stack.
+// Stored as one array: copied from a slice, the seven floats would take the way over the stack.
 fn write_floats(chunk: &mut [f64], pose: Isometry)
     requires { length chunk.old ≡ 7 }
     ensures { chunk.new ≡ floats pose }

@@ -11,7 +11,8 @@ use super::buffer::{Buffer, BufferMut};
 use super::kind::Kind;
 use super::words;
 
-// Takes the words of the first samples out, of `count`.
+// Takes the words of the first samples out, of `count`. The slices are not a row between the two moves, so this is no
+// method of BufferMut.
 #[tactic(auto, using(crate::proofs::Moves::removed_none))]
 fn drop_words(instants: &mut [u64], poses: &mut [f64], dropped: usize, count: usize)
     requires { (dropped ≤ count) × (count ≤ length instants.old) × (length poses.old ≡ 7 * length instants.old) }
@@ -19,6 +20,7 @@ fn drop_words(instants: &mut [u64], poses: &mut [f64], dropped: usize, count: us
     ensures poses { poses.new ≡ removed (7 * dropped) (7 * count) zero64 poses.old }
     ensures fit { FloatsFit poses.old }
 {
+    // Without this, each call would copy every word to where it stands.
     if dropped == 0 {
         return;
     }

@@ -27,7 +27,7 @@ impl Times<'_> {
         Some((self.instants[0], self.instants[self.count - 1]))
     }
 
-    // When a row of this kind is served.
+    // When a row of this kind is served. Of the instants alone: nothing is asked of the poses.
     pub fn coverage(&self, kind: Kind) -> Coverage
         ensures { (poses : List Float) → result ≡ coverage kind (samples_of self.now.count self.now.instants.now poses) }
     {

@@ -11,25 +11,21 @@ pub fn clear<T: Zero>(s: &mut [T])
 }
 
 // Moves the elements from `at` up to `end` up by `gap`.
-#[tactic(auto, using(crate::proofs::Moves::up_none, crate::proofs::Moves::up_more))]
+#[tactic(auto, using(crate::proofs::Moves::up_copied))]
 pub fn move_up<T: Copy>(s: &mut [T], at: usize, end: usize, gap: usize)
     requires { (at ≤ end) × (end + gap ≤ length s.old) }
     ensures { s.new ≡ moved_up at end gap s.old }
 {
-    for i in (at..end).rev() {
-        s[i + gap] = s[i];
-    }
+    s.copy_within(at..end, at + gap);
 }
 
 // Moves the elements from `gap` up to `end` down by `gap`.
-#[tactic(auto, using(crate::proofs::Moves::down_none, crate::proofs::Moves::down_more))]
+#[tactic(auto, unfolding(crate::specs::Words::moved_down))]
 pub(crate) fn move_down<T: Copy>(s: &mut [T], gap: usize, end: usize)
     requires { (gap ≤ end) × (end ≤ length s.old) }
     ensures { s.new ≡ moved_down gap end s.old }
 {
-    for i in gap..end {
-        s[i - gap] = s[i];
-    }
+    s.copy_within(gap..end, 0);
 }
 
 // Puts `v` in at `at`, before the elements up to `end`.

@@ -1,4 +1,4 @@
-// Elements with a zero: words, and floats, whose zero is +0.0.
+// Elements with a zero: words, and floats, whose zero is +0.0. `Default` has no law that its value is the one whose bits are 0.
 ghost use Rattle.std.specs.Prelude.{◌≡◌, ℕ, Bool, true, refl, eqb};
 ghost use Rattle.std.specs.Float.{binary64};
 ghost use Rattle.std.specs.Float.Ieee.{to_bits};

@@ -1,5 +1,5 @@
 -- The texts of a tree's edges by what is told of them.
-use Rattle.std.proofs.Common.{map, ◌≡◌, ℕ, ◌+◌, ◌-◌, suc, cond, eqb, ◌<◌, ◌≤◌, List, [], ◌∷◌, ◌++◌, refl, sym, ap, ◌∙◌, append_assoc, arith, eq-eqb, ne_eqb}
+use Rattle.std.proofs.Common.{map, ◌≡◌, ℕ, ◌+◌, ◌-◌, suc, cond, eqb, ◌<◌, ◌≤◌, List, [], ◌∷◌, ◌++◌, refl, sym, ap, ◌∙◌, append_assoc, arith, eq-eqb}
 use Rattle.buffer.proofs.Cases.{both}
 use Rattle.text.specs.Ascii.{ascii}
 use Rattle.text.specs.Writing.{number_text}
@@ -68,7 +68,3 @@ module _ (level : ℕ) (frames : ℕ → List (List (List ℕ))) (f : ℕ) (y : 
       rw (eq-eqb y.parent f e)
       (ap (λ ls. told_line level y ++ ls) (joined_both (frames y.child) (told_lines level frames f ys))
       ∙ sym (append_assoc (told_line level y) (joined_lines (frames y.child)) (joined_lines (told_lines level frames f ys))))
-
-  -- any other
-  pub line_passed : (y.parent ≡ f → ⊥) → told_lines level frames f (y ∷ ys) ≡ told_lines level frames f ys
-  line_passed e = rw (ne_eqb y.parent f e) refl

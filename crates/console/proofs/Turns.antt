@@ -31,10 +31,6 @@ leads_on {u} {v} {w} {all} {left} {xs} {rest} l e p = record {
   text = behind _ v.out.now w.out.now v.at w.at xs rest p.text refl ∙ ap (written_all v.out.now v.at) (sym e) ∙ l.text;
 }
 
--- others come in their place
-pub leads_same : {u v : Writer} {all left rest : List (List ℕ)} → Leads u v all left → left ≡ rest → Leads u v all rest
-leads_same {u} {v} {all} {left} {rest} l e = record { same_buffer = l.same_buffer; text = ap (written_all v.out.now v.at) (sym e) ∙ l.text }
-
 -- none is left
 pub leads_end : {u v : Writer} {all left : List (List ℕ)} → Leads u v all left → left ≡ [] → Writes u v all
 leads_end {u} {v} {all} {left} l e = record { same_buffer = l.same_buffer; text = none v.out.now v.at ∙ ap (written_all v.out.now v.at) (sym e) ∙ l.text }

@@ -62,6 +62,7 @@ fn put_head(out: &mut Writer<'_>)
 }
 
 // The graph of a sound store.
+#[tactic(auto, using(text::proofs::Behind::written_in_turn, crate::proofs::Turns::append_in_turn), unfolding(crate::specs::Dot::dot_texts))]
 fn put_graph(store: &Checked<'_>, out: &mut Writer<'_>)
     ensures { Writes out.old out.new (dot_texts (tree_in store.now)) }
 {
@@ -71,6 +72,7 @@ fn put_graph(store: &Checked<'_>, out: &mut Writer<'_>)
 }
 
 // The tree as a graph: an arrow from each parent to its child.
+#[tactic(auto, using(crate::proofs::Told::told_tree, crate::proofs::Told::told_refused))]
 pub fn dot(store: &Store<'_>, out: &mut Writer<'_>)
     ensures { Writes out.old out.new (told_of_store dot_texts (words store.now)) }
 {

@@ -16,10 +16,11 @@ use crate::{figures, output, refusals};
 use buffer::coverage::Coverage;
 use registry::checked::{Checked, Edge};
 use registry::error::RegistryError;
+use registry::limits;
 use text::Writer;
 
 // As many edges as a store can have.
-pub(crate) const MOST: usize = 256;
+pub(crate) const MOST: usize = limits::MOST_ROWS as usize;
 
 // The edge of a frame, and none for a root.
 pub(crate) fn edge_of(store: &Checked<'_>, frame: u64) -> Option<Edge>

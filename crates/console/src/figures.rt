@@ -38,6 +38,7 @@ fn without_zeros(number: u64, count: usize) -> (u64, usize)
 }
 
 // The last `count` digits of a number behind a point, less the zeros at the end; nothing where all are zeros.
+#[tactic(auto, using(text::proofs::Behind::written_in_turn, crate::proofs::Turns::append_in_turn, crate::proofs::Decimals::behind_point), unfolding(crate::specs::Figures::fraction_texts, text::specs::Digits::digits))]
 fn put_fraction(out: &mut Writer<'_>, number: u64, count: usize)
     ensures { Writes out.old out.new (fraction_texts count number) }
 {
@@ -74,6 +75,7 @@ fn rounded(x: f64) -> (u64, u64)
 }
 
 // A number from 0 on without a power of ten.
+#[tactic(auto, using(text::proofs::Behind::written_in_turn, crate::proofs::Turns::append_in_turn), unfolding(crate::specs::Figures::plain_texts))]
 fn put_plain(out: &mut Writer<'_>, x: f64)
     ensures { Writes out.old out.new (plain_texts x) }
 {
@@ -140,6 +142,7 @@ fn put_magnitude(out: &mut Writer<'_>, x: f64)
 }
 
 // Any float.
+#[tactic(auto, using(text::proofs::Behind::written_in_turn, crate::proofs::Turns::append_in_turn), unfolding(crate::specs::Figures::figure_texts))]
 pub fn put_figure(out: &mut Writer<'_>, x: f64)
     ensures { Writes out.old out.new (figure_texts x) }
 {
@@ -154,6 +157,7 @@ pub fn put_figure(out: &mut Writer<'_>, x: f64)
 }
 
 // Nanoseconds in seconds: exact, with up to nine digits behind the point.
+#[tactic(auto, using(text::proofs::Behind::written_in_turn, crate::proofs::Turns::append_in_turn), unfolding(crate::specs::Figures::seconds_texts))]
 pub(crate) fn put_seconds(out: &mut Writer<'_>, nanos: u64)
     ensures { Writes out.old out.new (seconds_texts nanos) }
 {
@@ -163,6 +167,7 @@ pub(crate) fn put_seconds(out: &mut Writer<'_>, nanos: u64)
 }
 
 // Three figures with a space between them.
+#[tactic(auto, using(text::proofs::Behind::written_in_turn, crate::proofs::Turns::append_in_turn), unfolding(crate::specs::Figures::vector_texts))]
 pub fn put_vector(out: &mut Writer<'_>, v: Vector3)
     ensures { Writes out.old out.new (vector_texts v) }
 {
@@ -174,6 +179,7 @@ pub fn put_vector(out: &mut Writer<'_>, v: Vector3)
 }
 
 // A frame by its number.
+#[tactic(auto, using(text::proofs::Behind::written_in_turn, crate::proofs::Turns::append_in_turn), unfolding(crate::specs::Figures::frame_texts))]
 pub(crate) fn put_frame(out: &mut Writer<'_>, frame: u64)
     ensures { Writes out.old out.new (frame_texts frame) }
 {

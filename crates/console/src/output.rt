@@ -43,12 +43,8 @@ fn put_all(rt: &impl Output, bytes: &[u8]) -> io::Result<()> {
     Err(retry::too_many())
 }
 
-// What is gathered.
-fn gathered<'a>(out: &'a Writer<'_>) -> &'a [u8] {
-    &out.out[..out.at.min(out.out.len())]
-}
-
 // What is left when the gathered text has been written: an empty buffer, or a failure, of which standard error is told.
+// It is no part of `flush` because of its clause `same`, which alone says what failed means: that the writing failed.
 fn emptied(rt: &impl Output, out: &mut Writer<'_>, written: io::Result<()>) -> Result<(), Failed>
     ensures same { IsOk result ↔ IsOk written }
     ensures empty { OnOk result (out.new.at ≡ 0) }
@@ -70,7 +66,7 @@ pub fn flush(rt: &impl Output, out: &mut Writer<'_>) -> Result<(), Failed>
     ensures err { OnErr result (out.new.at ≡ out.old.at) }
     ensures same_buffer { SameBuffer out.old out.new }
 {
-    let written = put_all(rt, gathered(out));
+    let written = put_all(rt, out.written());
     emptied(rt, out, written)
 }
 

@@ -13,6 +13,7 @@ use text::Writer;
 const NO_WORDS: &str = "a refusal without words";
 
 // The words of a refusal by its number, and before them, at 0, those of a number that has none.
+// They are lines of one text and no array of texts, since what a lookup in a constant array gives was not proved.
 fn put_words(out: &mut Writer<'_>, number: u32)
     ensures { Writes out.old out.new (words number ∷ []) }
 {

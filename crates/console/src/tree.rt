@@ -66,6 +66,7 @@ fn root_from(store: &Checked<'_>, from: u64) -> Option<u64>
 }
 
 // A root and the frames below it.
+#[tactic(auto, using(text::proofs::Behind::written_in_turn, crate::proofs::Turns::append_in_turn), unfolding(crate::specs::Tree::root_texts))]
 fn put_root(store: &Checked<'_>, root: u64, out: &mut Writer<'_>)
     ensures { Writes out.old out.new (root_texts (tree_in store.now) root) }
 {
@@ -106,6 +107,7 @@ fn put_tree(store: &Checked<'_>, out: &mut Writer<'_>)
 }
 
 // Every frame of the tree below its parent, with its kind, its count of samples and their range.
+#[tactic(auto, using(crate::proofs::Told::told_tree, crate::proofs::Told::told_refused))]
 pub fn tree(store: &Store<'_>, out: &mut Writer<'_>)
     ensures { Writes out.old out.new (told_of_store tree_texts (words store.now)) }
 {

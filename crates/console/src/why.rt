@@ -39,6 +39,7 @@ fn put_served(out: &mut Writer<'_>, served: bool)
 }
 
 // A hop on a line of its own: its frames, its kind and range, and whether it is served at the instant.
+#[tactic(auto, using(text::proofs::Behind::written_in_turn, crate::proofs::Turns::append_in_turn), unfolding(crate::specs::Why::told_line))]
 fn put_hop(out: &mut Writer<'_>, hop: Edge, t: u64)
     ensures { Writes out.old out.new (told_line t hop.child hop.parent hop.count hop.coverage) }
 {
@@ -55,6 +56,7 @@ fn put_hop(out: &mut Writer<'_>, hop: Edge, t: u64)
 fn put_hops(store: &Checked<'_>, frame: u64, end: u64, t: u64, out: &mut Writer<'_>)
     ensures { Writes out.old out.new (let u = tree_in store.now in hop_lines t (hops u (until (nat_eq end) (chain u frame)))) }
 {
+    // By hand: each hop's parent is the next frame, and its line is written on the way.
     let mut from = frame;
     while from != end {
         let Some(hop) = edges::edge_of(store, from) else {
@@ -66,6 +68,7 @@ fn put_hops(store: &Checked<'_>, frame: u64, end: u64, t: u64, out: &mut Writer<
 }
 
 // Which climb follows, from which frame to which.
+#[tactic(auto, using(text::proofs::Behind::written_in_turn, crate::proofs::Turns::append_in_turn), unfolding(crate::specs::Why::climb_texts))]
 fn put_climb(out: &mut Writer<'_>, name: &[u8], frame: u64, end: u64)
     ensures { Writes out.old out.new (climb_texts name.now frame end) }
 {
@@ -132,6 +135,7 @@ fn put_outcome(out: &mut Writer<'_>, seen: Result<Isometry, RegistryError>)
     }
 }
 
+#[tactic(auto, using(text::proofs::Behind::written_in_turn, crate::proofs::Turns::append_in_turn), unfolding(crate::specs::Why::lookup_texts))]
 fn put_lookup(out: &mut Writer<'_>, seen: Result<Isometry, RegistryError>)
     ensures { Writes out.old out.new (lookup_texts (replied pose seen)) }
 {
@@ -182,6 +186,7 @@ fn put_sound(store: &Checked<'_>, target: u32, source: u32, t: u64, out: &mut Wr
 }
 
 // Each hop between the target and the source, whether it is served at the instant, and what follows from that.
+#[tactic(auto, using(text::proofs::Behind::written_in_turn, crate::proofs::Turns::append_in_turn, crate::proofs::Told::tree_answered, crate::proofs::Told::tree_refused), unfolding(crate::specs::Why::why_texts))]
 pub fn why(store: &Store<'_>, target: u32, source: u32, t: u64, out: &mut Writer<'_>)
     ensures { Writes out.old out.new (why_texts target source t (words store.now)) }
 {

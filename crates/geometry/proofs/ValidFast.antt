@@ -62,11 +62,6 @@ too_high_outside : le (abs (sqrt too_high ⊖ one64)) tolerance ≡ false
 unfolding sqrt_at of_bits sub le
 too_high_outside = refl
 
--- on which side of 1 a root is
-lowest_under : num (sqrt lowest) ≤ den (sqrt lowest)
-unfolding sqrt_at of_bits
-lowest_under = lit≤ tt
-
 too_low_under : num (sqrt too_low) ≤ den (sqrt too_low)
 unfolding sqrt_at of_bits
 too_low_under = lit≤ tt

@@ -27,6 +27,7 @@ pub enum TransformError {
     QuaternionError(QuaternionError),
 }
 
+// By hand: the derive's `#[from]` has no contract, and `?` would lose which error it was.
 impl From<TimeError> for TransformError {
     ghost use Rattle.geometry.specs.declared.error.TransformError.TheVariants as transform;
 

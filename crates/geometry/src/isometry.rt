@@ -38,7 +38,7 @@ impl Isometry {
 
     // The pose itself, if all seven components are finite.
     #[tactic(auto, unfolding(crate::specs::Isometry::finite))]
-    fn finite(self) -> Result<Isometry, TransformError>
+    pub fn finite(self) -> Result<Isometry, TransformError>
         ensures { reply_by refusal_of result ≡ finite self }
     {
         if self.is_finite() {

@@ -14,5 +14,4 @@ pub mod SqrtNearest
 pub mod Table
 pub mod Enclosure
 pub mod Series
-pub mod FloatBits
 pub mod SqrtOrder

@@ -37,6 +37,7 @@ impl Radicand {
         let mut root = 0u64;
         let mut rest = self.n;
         let mut bit = 0x40_0000_0000_0000u64;
+        // No count: the digit's own bit tells when the last has been taken.
         while 1 < bit {
             bit /= 2;
             rest *= 2;

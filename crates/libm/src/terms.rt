@@ -66,8 +66,7 @@ pub(crate) const TERMS: [(u16, u16); 48] = [
     (9025, 9312),
 ];
 
-// The steps from `from` down to `to`: with the lower square from the lower value, and with the upper
-// from the upper.
+// The steps from `from` down to `to`: of the lower value with the lower square, of the upper with the upper.
 fn steps(squares: Bounds, from: usize, to: usize, start: Bounds) -> Bounds
     requires { (to ≤ from) × (from ≤ 48) }
     ensures { (result.low ≡ run (from - to) to squares.low start.low) × (result.high ≡ run (from - to) to squares.high start.high) }

@@ -11,6 +11,7 @@ fn fill(file: &mut impl Read, buf: &mut [u8]) -> io::Result<usize>
     ensures { IfOk result (λ n. n ≤ length buf.old) }
 {
     let mut done = 0;
+    // More turns than any file takes.
     for _ in 0..u64::MAX {
         if buf.len() <= done {
             break;
@@ -32,7 +33,7 @@ fn read_whole(file: &mut impl Read, buf: &mut [u8]) -> io::Result<Option<usize>>
 {
     let count = fill(file, buf)?;
     let more = fill(file, &mut [0u8; 1])?;
-    Ok(if more == 0 { Some(count) } else { None })
+    Ok((more == 0).then_some(count))
 }
 
 // Reads the file of that name, and answers how many bytes it has, which then stand at the buffer's start.

@@ -1,9 +1,10 @@
 // The frames of a map: their parents, in a table by their numbers.
 use arrayvec::ArrayVec;
 use map_file::file::MapFile;
+use registry::limits;
 
-// As many as a full store of 256 rows can have: each row has a child, and a parent.
-pub(crate) const MOST_FRAMES: usize = 512;
+// As many as a full store can have: each row has a child, and a parent.
+pub(crate) const MOST_FRAMES: usize = 2 * limits::MOST_ROWS as usize;
 
 // The parent of each frame that has one.
 pub(crate) type Parents = ArrayVec<Option<u32>, MOST_FRAMES>;
@@ -26,31 +27,4 @@ pub(crate) fn parents(file: &MapFile<'_>) -> Parents {
         }
     }
     parents
-}
-
-// The parent of a frame.
-pub(crate) fn parent(parents: &[Option<u32>], frame: u32) -> Option<u32> {
-    *parents.get(frame as usize)?
-}
-
-// The first child of a frame, or the first root, from a number on.
-pub(crate) fn child_from(parents: &[Option<u32>], under: Option<u32>, from: usize) -> Option<u32> {
-    for frame in from..parents.len() {
-        if parents[frame] == under {
-            return u32::try_from(frame).ok();
-        }
-    }
-    None
-}
-
-// How many frames stand above a frame.
-pub(crate) fn level(parents: &[Option<u32>], frame: u32) -> usize {
-    let mut above = parent(parents, frame);
-    for level in 0..parents.len() {
-        let Some(next) = above else {
-            return level;
-        };
-        above = parent(parents, next);
-    }
-    parents.len()
 }

@@ -12,6 +12,7 @@ mod tree;
 use console::output::Output;
 use map_file::file::MapFile;
 use map_loading::load_map;
+use registry::limits;
 use registry::store::StoreMut;
 use std::rt::{Env, Files};
 
@@ -22,12 +23,13 @@ const FILE_BYTES: usize = 1048576;
 const PATH_BYTES: usize = 4096;
 
 // A store of 256 rows with one sample each, which is all that static frames need.
-const ROWS: u64 = 256;
+const ROWS: u64 = limits::MOST_ROWS;
 
 const SAMPLES: u64 = 1;
 
 // Loads the file into the store and prints what came of it.
 fn show(rt: &impl Output, store: &mut StoreMut<'_>, map: &[u8]) {
+    // Done: the slices of `main` have the lengths of these sizes.
     let _ = store.open(ROWS, SAMPLES, None);
     if let Err(error) = load_map::load_map(store, map) {
         refusals::print(rt, map, error);
@@ -60,10 +62,6 @@ fn main(rt: HostRuntime) {
     let mut poses = [0.0f64; 1792];
     let mut map = [0u8; FILE_BYTES];
     let mut path = [0u8; PATH_BYTES];
-    let mut store = StoreMut {
-        head: &mut head,
-        instants: &mut instants,
-        poses: &mut poses,
-    };
+    let mut store = StoreMut::new(&mut head, &mut instants, &mut poses);
     run(&rt, &mut store, &mut map, &mut path);
 }

@@ -61,10 +61,7 @@ fn print_whole(rt: &impl Output, out: &mut Writer<'_>, error: LoadError) {
 // Prints what a load was refused with.
 pub(crate) fn print(rt: &impl Output, map: &[u8], error: LoadError) {
     let mut line = [0u8; lines::LINE_BYTES];
-    let mut out = Writer {
-        out: &mut line,
-        at: 0,
-    };
+    let mut out = Writer::new(&mut line);
     let LoadError::Record(n, cause) = error else {
         print_whole(rt, &mut out, error);
         return;

@@ -24,34 +24,34 @@ fn print_frame(
     out: &mut Writer<'_>,
     store: &Store<'_>,
     file: &MapFile<'_>,
-    parents: &[Option<u32>],
+    parent: Option<u32>,
     frame: u32,
+    level: usize,
 ) {
-    console::tree::put_indent(out, frames::level(parents, frame));
+    console::tree::put_indent(out, level);
     names::put_frame(out, file, frame);
-    put_mounting(out, store, frames::parent(parents, frame), frame);
+    put_mounting(out, store, parent, frame);
     lines::print(rt, out);
 }
 
-// Prints every frame: the walk comes to each once, and once to the end of its children. What comes next are the children
-// of a frame, or the roots, from a number on.
-fn print_frames(
+// Prints the children of a frame, or the roots, each with the frames below it a level on. No tree has more levels than
+// frames.
+fn print_below(
     rt: &impl Output,
     out: &mut Writer<'_>,
     store: &Store<'_>,
     file: &MapFile<'_>,
     parents: &[Option<u32>],
+    under: Option<u32>,
+    level: usize,
 ) {
-    let mut under = None;
-    let mut from = 0;
-    for _ in 0..2 * MOST_FRAMES {
-        if let Some(frame) = frames::child_from(parents, under, from) {
-            print_frame(rt, out, store, file, parents, frame);
-            under = Some(frame);
-            from = 0;
-        } else if let Some(frame) = under {
-            under = frames::parent(parents, frame);
-            from = frame as usize + 1;
+    if level >= MOST_FRAMES {
+        return;
+    }
+    for (frame, parent) in (0..MOST_FRAMES as u32).zip(parents) {
+        if *parent == under {
+            print_frame(rt, out, store, file, under, frame, level);
+            print_below(rt, out, store, file, parents, Some(frame), level + 1);
         }
     }
 }
@@ -67,11 +67,8 @@ fn print_counts(rt: &impl Output, out: &mut Writer<'_>, frames: usize, records: 
 // Prints the map that has been loaded into the store.
 pub(crate) fn print(rt: &impl Output, store: &Store<'_>, file: &MapFile<'_>) {
     let mut line = [0u8; lines::LINE_BYTES];
-    let mut out = Writer {
-        out: &mut line,
-        at: 0,
-    };
+    let mut out = Writer::new(&mut line);
     let parents = frames::parents(file);
     print_counts(rt, &mut out, parents.len(), file.count());
-    print_frames(rt, &mut out, store, file, parents.as_slice());
+    print_below(rt, &mut out, store, file, parents.as_slice(), None, 0);
 }

@@ -1,14 +1,13 @@
 -- What is known of a file that has its form: the bytes behind its head are those of its records, and each record is within the limits.
 use Prim.Native.Nat.{ℕ}
-use mathlib.Core.Path.{◌≡◌, refl, ap, ◌∙◌}
-use mathlib.Core.Logic.{◌↔◌}
+use mathlib.Core.Path.{◌≡◌, refl, ap}
 use Rattle.std.specs.Prelude.{Option, None, Some}
 use mathlib.Core.List.{List}
-use lib.ListN.{length, drop}
+use lib.ListN.{drop}
 use Rattle.time.specs.Reply.{answer}
 use Rattle.time.proofs.Replies.{refusal_answer, answer_in}
 use Rattle.buffer.specs.Row.{concat_map}
-use Rattle.map_file.specs.Form.{Record, record_bytes, file_bytes, FileFits, records, formed, record_count}
+use Rattle.map_file.specs.Form.{Record, record_bytes, file_bytes, FileFits, records, formed}
 use Rattle.map_file.specs.Laws.{Bytes}
 use Rattle.map_file.proofs.FormBothWays.{form_both_ways}
 
@@ -28,7 +27,3 @@ module _ (bytes : List ℕ) (rs : List Record) (h : Bytes bytes) (e : records by
 pub answered : {A : Type 0} (call : List Record → A) (o : Option (List Record)) (a : A) → formed o call ≡ answer a → (rs : List Record) × ((o ≡ Some rs) × (call rs ≡ a))
 answered call None a e = absurd (refusal_answer e)
 answered call (Some rs) a e = (rs, (refl, answer_in e))
-
-pub count_answered : (bytes : List ℕ) (n : ℕ) → (record_count bytes ≡ answer n) ↔ ((rs : List Record) × ((records bytes ≡ Some rs) × (length rs ≡ n)))
-unfolding record_count
-count_answered bytes n = (answered (λ rs. length rs) (records bytes) n, λ w. ap (λ (o : Option (List Record)). formed o (λ rs. length rs)) w.1.0 ∙ ap answer w.1.1)

@@ -17,6 +17,7 @@ const MARK_AND_VERSION: &[u8] = b"FRM\x01\x00";
 // These and the count.
 const HEAD_BYTES: usize = 7;
 
+// Its records, which begin behind the head.
 #[derive(Clone, Copy)]
 pub struct MapFile<'a> {
     records: Records<'a>,

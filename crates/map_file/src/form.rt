@@ -1,4 +1,4 @@
-// The form of a map file: a head of seven bytes, then the records, and nothing behind them.
+// What is said of a file by its form, which is a head of seven bytes, then the records, and nothing behind them.
 ghost use Rattle.std.specs.Prelude.{◌≡◌};
 ghost use Rattle.time.specs.Reply.{reply_by};
 ghost use Rattle.map_file.specs.Form.{record_count};

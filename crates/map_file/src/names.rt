@@ -1,4 +1,5 @@
-// The names of a map file, in its order: "child before parent".
+// The names of a map file, in its order: "child before parent". By an iterator of their own and no `flat_map`: it is
+// copied to look back at the names before, and `names_left` says what is left.
 ghost use Rattle.std.specs.Prelude.{◌≡◌, take, map};
 ghost use Rattle.std.specs.Iterator.{YieldsFirstBy, item_count};
 ghost use Rattle.map_file.specs.Book.{among};

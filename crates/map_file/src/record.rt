@@ -1,4 +1,4 @@
-// The records of a map file, read one behind the other.
+// A name and a record of a map file, and what stands behind them.
 ghost use Rattle.std.specs.Prelude.{◌≡◌, ◌+◌, ◌*◌, ◌^◌, ◌≤◌, ◌<◌, length, take, drop, option_map, IfSome};
 ghost use Rattle.std.specs.Float.{binary64};
 ghost use Rattle.std.specs.Float.Ieee.{of_bits};
@@ -30,7 +30,7 @@ pub struct Record<'a> {
     pub pose: &'a [u8; POSE_BYTES],
 }
 
-// The float whose eight bytes begin at a place.
+// The float whose eight bytes begin at a place. (By places: the parts of a pose are not alike, so no loop goes over them.)
 fn float_at(bytes: &[u8], at: usize) -> f64
     requires { at + 8 ≤ length bytes.now }
     ensures { result ≡ of_bits binary64 (number (take 8 (drop at bytes.now))) }

@@ -3,6 +3,7 @@ pub mod Adding
 pub mod DoneIsAdditions
 pub mod LoadCases
 pub mod LoadFirstDue
+pub mod LoadInjective
 pub mod LoadRepliesFit
 pub mod LoadTests
 pub mod LoadedTree

@@ -8,23 +8,27 @@ use borrow.Author.Tests.{ltb-true, ltb-false}
 use lib.Dec.{ltb}
 use lib.ListN.{length, length-map}
 use Rattle.std.specs.Prelude.{Option, None, Some}
+use Rattle.std.proofs.Common.{Bor}
 use Rattle.std.specs.List.{position_or_len}
 use Rattle.std.proofs.lemmas.List.Recursion.{is_position_or_len}
 use Rattle.text.specs.Reading.{same}
 use Rattle.buffer.proofs.Cases.{both, none_some}
 use Rattle.map_file.specs.Form.{Name}
 use Rattle.map_file.specs.Book.{among, numbered, position}
-use Rattle.map_loading.specs.declared.names.Name.{Name as Known}
 use Rattle.map_loading.proofs.MapAdditions.{position_absent}
 use Rattle.map_loading.proofs.NamesBound.{position_among, among_position}
 
+-- a name that has a number
+abbrev pub Known : Type 0
+Known = Bor Name
+
 -- by the bytes of each
 abbrev pub bytes_of : List Known → List Name
-bytes_of ns = map (λ n. n.bytes.now) ns
+bytes_of ns = map (λ n. n.now) ns
 
 module _ (name : Name) (ns : List Known) (r : Option ℕ) where
   abbrev pub is_name : Known → Bool
-  is_name n = same name n.bytes.now
+  is_name n = same name n.now
 
   -- the first that has these bytes
   abbrev pub Searched : Type 0
@@ -37,7 +41,7 @@ module _ (name : Name) (ns : List Known) (r : Option ℕ) where
   place = is_position_or_len (λ (l : List Known). position name (bytes_of l)) is_name refl one_on ns
 
   count : length (bytes_of ns) ≡ length ns
-  count = length-map ns (λ n. n.bytes.now)
+  count = length-map ns (λ n. n.now)
 
   -- it has a number
   pub number_found : Searched → (k : ℕ) → r ≡ Some k → (k ≡ position name (bytes_of ns)) × (bytes_of ns ≡ numbered (bytes_of ns) name)
@@ -50,7 +54,7 @@ module _ (name : Name) (ns : List Known) (r : Option ℕ) where
       (λ t. absurd (none_some (sym (rw t at h) ∙ e)))
 
   -- it has none, and is given the next
-  pub number_given : Searched → r ≡ None → (x : Known) → x.bytes.now ≡ name
+  pub number_given : Searched → r ≡ None → (x : Known) → x.now ≡ name
       → (length ns ≡ position name (bytes_of ns)) × (bytes_of (ns ++ (x ∷ [])) ≡ numbered (bytes_of ns) name)
   number_given h e x named =
       both (ltb (position_or_len is_name ns) (length ns))
@@ -58,4 +62,4 @@ module _ (name : Name) (ns : List Known) (r : Option ℕ) where
       (λ t.
       let new : among name (bytes_of ns) ≡ false =
       both (among name (bytes_of ns)) (λ a. absurd (omega (arith, ltb-false _ _ t, place, count, among_position name (bytes_of ns) a))) (λ a. a) in
-      (omega (arith, count, position_absent name (bytes_of ns) new), rw new (map-append (λ n. n.bytes.now) ns (x ∷ []) ∙ ap (λ (b : Name). bytes_of ns ++ (b ∷ [])) named)))
+      (omega (arith, count, position_absent name (bytes_of ns) new), rw new (map-append (λ n. n.now) ns (x ∷ []) ∙ ap (λ (b : Name). bytes_of ns ++ (b ∷ [])) named)))

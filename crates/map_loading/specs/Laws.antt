@@ -1,6 +1,6 @@
 -- What holds of loading. Proved in proofs/ under the same names.
 use Rattle.std.specs.Prelude.{ℕ, ◌≡◌, Bool, true, false, not, List, [], ◌∷◌, take, drop}
-use Rattle.std.specs.Prelude.{Option, None, Some}
+use Rattle.std.specs.Prelude.{Option, None, Some, Result}
 use Rattle.time.specs.Reply.{Carried, Reply, answer, refusal, nothing}
 use Rattle.time.specs.Order.{Dues, when, first_due, refused}
 use Rattle.registry.specs.Tree.{Addition, holds_no_frame, member}
@@ -11,7 +11,8 @@ use Rattle.registry.specs.History.{run, accepted}
 use Rattle.registry.specs.Order.{lent, lent_due}
 use Rattle.registry.specs.Replies.{of_done, fits}
 use Rattle.map_file.specs.Form.{Record, records}
-use Rattle.map_loading.specs.Loading.{additions, load_of}
+use Rattle.map_loading.specs.declared.error.LoadError.{LoadError}
+use Rattle.map_loading.specs.Loading.{additions, load_of, record_of, load_reply}
 
 -- done: the file's records are added one by one, each addition answered with done, and the store is the one that they leave
 pub record AddedOneByOne (s : Store) (bytes : List ℕ) : Type 0 where
@@ -44,6 +45,10 @@ RefusedAsFound = (s : Store) (bytes : List ℕ) (k : ℕ) (c : Carried) → (loa
 -- what a load replies: done, or a refusal that carries what its number lists
 abbrev pub LoadRepliesFit : Type 0
 LoadRepliesFit = (s : Store) (bytes : List ℕ) → fits of_done (load_of s bytes).reply ≡ true
+
+-- a load's reply and the record's number fix its result
+abbrev pub LoadInjective : Type 0
+LoadInjective = (a b : Result (Unit {0}) LoadError) → record_of a ≡ record_of b → load_reply a ≡ load_reply b → a ≡ b
 
 -- ---- "Both follow 1 and 2, with 19 first, and precede any record's own refusal."
 

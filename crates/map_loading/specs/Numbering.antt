@@ -9,7 +9,7 @@ use Rattle.map_loading.specs.declared.names.NumberedNames.{NumberedNames}
 
 -- by their numbers
 abbrev pub names_of : NumberedNames → List Name
-names_of s = map (λ n. n.bytes.now) s.names.items
+names_of s = map (λ n. n.now) s.names.items
 
 -- the names with numbers behind a record, where these had one before it
 abbrev pub names_after : List Name → Record → List Name

@@ -21,6 +21,7 @@ pub enum LoadError {
     Record(u32, RegistryError),
 }
 
+// By hand: the derive's `#[from]` has no contract.
 impl From<RegistryError> for LoadError {
     ghost from_gives = { λ error load. load ≡ Store error };
 

@@ -3,26 +3,14 @@ ghost use Rattle.std.specs.Prelude.{◌≡◌, ◌<◌, [], length};
 ghost use Rattle.map_file.specs.Book.{numbered, position};
 
 use arrayvec::ArrayVec;
+use registry::limits;
 
 // As many names as the frames of a full store, and two more.
-const MOST_NAMES: usize = 514;
-
-// The bytes of a name.
-#[derive(Clone, Copy)]
-struct Name<'a> {
-    bytes: &'a [u8],
-}
-
-// What stands in a place that is not used.
-impl Default for Name<'_> {
-    fn default() -> Self {
-        Name { bytes: &[] }
-    }
-}
+const MOST_NAMES: usize = 2 * limits::MOST_ROWS as usize + 2;
 
 #[derive(Drop)]
 pub(crate) struct NumberedNames<'a> {
-    names: ArrayVec<Name<'a>, MOST_NAMES>,
+    names: ArrayVec<&'a [u8], MOST_NAMES>,
 }
 
 impl<'a> NumberedNames<'a> {
@@ -42,13 +30,13 @@ impl<'a> NumberedNames<'a> {
         ensures number { result ≡ position name.now (names_of self.old) }
         ensures names { names_of self.new ≡ numbered (names_of self.old) name.now }
     {
-        match self.names.iter().position(|known| name == known.bytes) {
-            Some(number) => number as u32,
+        let number = match self.names.iter().position(|known| name == *known) {
+            Some(number) => number,
             None => {
-                let number = self.names.len();
-                self.names.push(Name { bytes: name });
-                number as u32
+                self.names.push(name);
+                self.names.len() - 1
             }
-        }
+        };
+        number as u32
     }
 }

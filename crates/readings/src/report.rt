@@ -11,11 +11,6 @@ pub(crate) fn put(rt: &impl Print, text: &[u8]) -> io::Result<()> {
     rt.write_all(text)
 }
 
-// What has been written.
-fn gathered<'a>(out: &'a Writer<'_>) -> &'a [u8] {
-    &out.out[..out.at.min(out.out.len())]
-}
-
 // What was asked: a name and two numbers.
 pub(crate) fn asked(rt: &impl Print, name: &str, a: u64, b: u64) -> io::Result<()> {
     print!(rt; "{name} {a} {b}")
@@ -35,17 +30,14 @@ pub(crate) fn asked_float(rt: &impl Print, name: &str, x: f64) -> io::Result<()>
 // A pose, as the last of what was asked.
 pub(crate) fn asked_pose(rt: &impl Print, pose: Isometry) -> io::Result<()> {
     let mut buf = [0u8; ANSWER_BYTES];
-    let mut out = Writer {
-        out: &mut buf,
-        at: 0,
-    };
+    let mut out = Writer::new(&mut buf);
     answers::write_pose(&mut out, pose);
     put(rt, b", ")?;
-    put(rt, gathered(&out))
+    put(rt, out.written())
 }
 
 // What is expected, and what came out.
-pub(crate) fn compare(rt: &impl Print, expected: &[u8], got: &[u8]) -> io::Result<()> {
+fn compare(rt: &impl Print, expected: &[u8], got: &[u8]) -> io::Result<()> {
     put(rt, b": expected ")?;
     put(rt, expected)?;
     put(rt, b", got ")?;
@@ -69,10 +61,7 @@ pub(crate) fn compare_written<F: FnOnce(&mut Writer<'_>)>(
     requires { F.IsAlwaysCallable write }
 {
     let mut buf = [0u8; ANSWER_BYTES];
-    let mut out = Writer {
-        out: &mut buf,
-        at: 0,
-    };
+    let mut out = Writer::new(&mut buf);
     write(&mut out);
-    compare(rt, expected, gathered(&out))
+    compare(rt, expected, out.written())
 }

@@ -3,6 +3,13 @@ use super::store::Bench;
 use registry::store::StoreMut;
 use std::io;
 
+// The most words and floats that are lent: those of 257 rows, and of 1025 samples.
+const HEAD_WORDS: usize = 1033;
+
+const INSTANTS: usize = 1025;
+
+const FLOATS: usize = 7175;
+
 // Opens a store in the first words of each slice.
 fn open_in(
     rt: &impl Print,
@@ -11,16 +18,16 @@ fn open_in(
     (head, instants, poses): (usize, usize, usize),
     expected: &[u8],
 ) -> io::Result<()> {
-    let mut all_head = [0u64; 1033];
-    let mut all_instants = [0u64; 1025];
-    let mut all_poses = [0.0f64; 7175];
+    let mut all_head = [0u64; HEAD_WORDS];
+    let mut all_instants = [0u64; INSTANTS];
+    let mut all_poses = [0.0f64; FLOATS];
     let mut bench = Bench {
         rt,
-        store: StoreMut {
-            head: &mut all_head[..head.min(1033)],
-            instants: &mut all_instants[..instants.min(1025)],
-            poses: &mut all_poses[..poses.min(7175)],
-        },
+        store: StoreMut::new(
+            &mut all_head[..head.min(HEAD_WORDS)],
+            &mut all_instants[..instants.min(INSTANTS)],
+            &mut all_poses[..poses.min(FLOATS)],
+        ),
     };
     bench.open_expecting(rows, samples, expected)
 }

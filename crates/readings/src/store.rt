@@ -32,8 +32,7 @@ impl<R: Print> Bench<'_, '_, R> {
     }
 
     pub(crate) fn open(&mut self, rows: u64, samples: u64) -> io::Result<()> {
-        report::asked(self.rt, "open", rows, samples)?;
-        self.open_with(rows, samples, None, b"done")
+        self.open_expecting(rows, samples, b"done")
     }
 
     // .. with an age.
@@ -56,7 +55,7 @@ impl<R: Print> Bench<'_, '_, R> {
     // A pose that a moving frame under 1 takes.
     pub(crate) fn sample(&mut self, child: u32, t: u64, x: f64) -> io::Result<()> {
         let pose = moved(x, 0.0);
-        report::asked_at(self.rt, "add", child as u64, 1, t)?;
+        report::asked_at(self.rt, "add", u64::from(child), 1, t)?;
         report::asked_pose(self.rt, pose)?;
         let result = self.store.add_transform(child, 1, Stamp::At(t), pose);
         self.done(b"done", result)
@@ -70,7 +69,7 @@ impl<R: Print> Bench<'_, '_, R> {
         pose: Isometry,
         expected: &[u8],
     ) -> io::Result<()> {
-        report::asked(self.rt, "add static", child as u64, parent as u64)?;
+        report::asked(self.rt, "add static", u64::from(child), u64::from(parent))?;
         report::asked_pose(self.rt, pose)?;
         let result = self.store.add_transform(child, parent, Stamp::Static, pose);
         self.done(expected, result)
@@ -97,13 +96,13 @@ impl<R: Print> Bench<'_, '_, R> {
 
     // A frame seen from frame 1.
     pub(crate) fn lookup(&self, source: u32, t: u64, expected: &[u8]) -> io::Result<()> {
-        report::asked_at(self.rt, "lookup", 1, source as u64, t)?;
+        report::asked_at(self.rt, "lookup", 1, u64::from(source), t)?;
         let result = self.store.as_ref().get_transform(1, source, t);
         report::compare_written(self.rt, expected, |out| answers::write_lookup(out, result))
     }
 
     pub(crate) fn common(&self, target: u32, source: u32, expected: &[u8]) -> io::Result<()> {
-        report::asked(self.rt, "common", target as u64, source as u64)?;
+        report::asked(self.rt, "common", u64::from(target), u64::from(source))?;
         let result = self.store.as_ref().latest_common_time(target, source);
         report::compare_written(
             self.rt,

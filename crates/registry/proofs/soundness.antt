@@ -1,5 +1,4 @@
 pub mod AddKeepsSound
-pub mod AllTests
 pub mod Called
 pub mod Checking
 pub mod Doubling
@@ -9,7 +8,6 @@ pub mod HeadTests
 pub mod NoCircle
 pub mod OpenedIsSound
 pub mod Rules
-pub mod SameParents
 pub mod SoundEdges
 pub mod SoundStore
 pub mod WipeKeepsSound

@@ -28,7 +28,7 @@ words s = store_of s.head.now s.instants.now s.poses.now
 abbrev pub words_mut : StoreMut → Store
 words_mut s = store_of s.head.now s.instants.now s.poses.now
 
--- the slices that are lent are still the same three
+-- The slices that are lent are still the same three: a &mut in a struct could be replaced, so each function that writes says that none was.
 pub record SameSlices (a b : StoreMut) : Type 0 where
   pub head : b.head.ghost_name ≡ a.head.ghost_name
   pub instants : b.instants.ghost_name ≡ a.instants.ghost_name

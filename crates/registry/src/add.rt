@@ -10,7 +10,7 @@ use geometry::isometry::Isometry;
 use time::stamp::Stamp;
 
 impl StoreMut<'_> {
-    // Puts a pose into the tree, or says why not and leaves every word.
+    // Puts a pose into the tree, or says why not and leaves every word. The parameters are the Rust's.
     pub fn add_transform(
         &mut self,
         child: u32,

@@ -30,7 +30,8 @@ pub struct Checked<'a> {
     ghost sound: { SoundStore (words store) },
 }
 
-// The same to write: a store that is lent on, since the check does not follow slices through a struct within a struct.
+// The same to write: it lends a StoreMut and does not hold one, since the check does not follow slices that are written
+// through a struct within a struct. Each method says that the store lent is the same, and its slices.
 #[derive(Drop)]
 pub struct CheckedMut<'a, 'b> {
     pub store: &'a mut StoreMut<'b>,
@@ -78,8 +79,7 @@ impl Checked<'_> {
         }
     }
 
-    // The first edge whose child is the frame or greater. Asked from 0, and then each time from one more
-    // than the child read, it gives every edge once, by rising child.
+    // The first edge whose child is the frame or greater. (`edges` gives all of them, one after the other.)
     pub fn edge_from(&self, frame: u64) -> Option<Edge>
         ensures { result ≡ told (edge_from (tree_of (words self.now.store)) frame) }
     {

@@ -1,4 +1,5 @@
-// Why a call is refused, named by src/core/registry/error.rs of the Rust.
+// Why a call is refused, named by src/core/registry/error.rs of the Rust. No program prints these messages: what people
+// read is console's.
 ghost use Rattle.std.specs.Prelude.{◌≡◌};
 ghost use Rattle.registry.specs.Answers.{refusal_of, carried_by};
 
@@ -10,7 +11,8 @@ use time::error::TimeError;
 // The range of a hop, from its first to its last instant, if it holds any sample.
 pub type Covered = Option<(u64, u64)>;
 
-// The refusals of the calls on a store, in the order of their numbers.
+// The refusals of the calls on a store, with 15 of an interpolation, in the order of their numbers; 18 and 19 are those of
+// a load.
 #[derive(Clone, Copy, Debug, PartialEq, Error)]
 pub enum RegistryError {
     #[error("the sizes or the lengths of the slices are wrong")]
@@ -49,7 +51,7 @@ pub enum RegistryError {
     RowFull,
 }
 
-// What geometry refuses keeps its number and its data.
+// What geometry refuses keeps its number and its data. (By hand: the derive's `#[from]` has no contract.)
 impl From<TransformError> for RegistryError {
     ghost use Rattle.geometry.specs.Answers.{refusal_of as transform_refusal_of};
     ghost use Rattle.registry.specs.Answers.{refusal_of};
@@ -84,7 +86,7 @@ impl From<InsertError> for RegistryError {
     }
 }
 
-// The data that a refusal carries.
+// The data that a refusal carries. With `Nothing`, as document 01's table has it.
 #[derive(Clone, Copy, Debug, PartialEq)]
 pub enum Carried {
     Nothing,

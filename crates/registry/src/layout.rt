@@ -1,5 +1,5 @@
 // The layout of a store: where the words of the three slices lie. Whatever reads or writes a word of the
-// head, or takes a row's part of the instants or of the poses, does it here.
+// head, or takes a row's part of the instants or of the poses, does it here and in `head`.
 ghost use Rattle.std.specs.Prelude.{◌≡◌, ◌+◌, ◌^◌, ◌≤◌, ◌<◌, leb, length, take, drop, replicate};
 ghost use Rattle.registry.specs.Limits.{limits_by};
 ghost use Rattle.registry.specs.Store.{head_length, instants_length, poses_length, row_floats, flag_word, age_word, kind_word, rows_in, capacity_in, used_in, flag_in, age_word_in, age_in, limits_of, row_word, child_in, parent_in, kind_in, count_in, kind_of_word, row_instants, row_poses, unused_head, unused_instants, unused_poses, with_header, with_count, stored};
@@ -200,7 +200,8 @@ fn set_count(head: &mut [u64], r: usize, count: usize)
     head[place] = count as u64;
 }
 
-// A sample put into a row's part of the slices; how many it then holds.
+// A sample put into a row's part of the slices; how many it then holds. This function and the next get the part as slices:
+// a buffer that `put_row` makes of parts of the store's slices is not covered by the borrow checker (four ways were tried).
 fn insert_sample(
     instants: &mut [u64],
     poses: &mut [f64],
@@ -244,6 +245,7 @@ fn remove_samples(
     row.count
 }
 
+// The two methods read the same six values of the row: a struct of them would want a contract as long as both.
 impl StoreMut<'_> {
     // Puts a sample into row r, or 17.
     pub(crate) fn put_row(

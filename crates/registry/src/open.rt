@@ -6,8 +6,21 @@ use crate::error::RegistryError;
 use crate::limits::Limits;
 use crate::store::StoreMut;
 
+impl<'a> StoreMut<'a> {
+    // Three slices as a store to be written, whatever stands in them.
+    pub fn new(head: &'a mut [u64], instants: &'a mut [u64], poses: &'a mut [f64]) -> StoreMut<'a>
+        ensures { (result.head ≡ head.entry) × (result.instants ≡ instants.entry) × (result.poses ≡ poses.entry) }
+    {
+        StoreMut {
+            head,
+            instants,
+            poses,
+        }
+    }
+}
+
 impl StoreMut<'_> {
-    // Overwrites everything with a store of these sizes and this age, with no row used.
+    // Overwrites everything with a store of these sizes and this age, with no row used. The three come one by one, as from C.
     #[tactic(auto, unfolding(crate::specs::Calls::open_of))]
     pub fn open(
         &mut self,

@@ -13,6 +13,7 @@ pub(crate) struct Rows<'a> {
     ghost rising: { RisingRows head.now },
 }
 
+// What `Head` reads of a row, of a row below those used: one fact to show, in the place of where its words end.
 impl Rows<'_> {
     pub(crate) fn head(&self) -> Head<'_>
         ensures { result.words.now ≡ self.now.head.now }

@@ -3,7 +3,7 @@ pub mod Bytes
 pub mod Numbers
 pub mod Equal
 pub mod Before
-pub mod Words
+pub mod NextWord
 pub mod Exact
 pub mod Scaled
 pub mod RoundNearest

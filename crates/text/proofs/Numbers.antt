@@ -1,8 +1,7 @@
 -- The number that digits are, where 64 bits do not hold it. Assumes nothing.
 use Rattle.std.proofs.Common.{◌≡◌, refl, ap, ◌∙◌, Bool, true, false, cond, ℕ, suc, ◌+◌, ◌*◌, ◌≤◌, ◌<◌, List, [], ◌∷◌, length, drop, get_or, drop-cons, arith}
-use Rattle.std.specs.Prelude.{None, Some}
+use Rattle.std.specs.Prelude.{None}
 use native.Mathlib.Nat.{mul-le-mul_left, mul-one}
-use Rattle.time.proofs.Options.{Some-injective, None-ne-Some}
 use borrow.Author.Tests.{le-ltb, ltb-true}
 use lib.Dec.{ltb}
 use Rattle.text.specs.Digits.{digit, number_from, below}
@@ -29,11 +28,3 @@ module _ (base bound : ℕ) where
   number_over w n i h o =
       ap (λ (l : List ℕ). below bound (number_from base n l)) (drop-cons w i 0 h)
       ∙ more n (get_or w i 0) (drop (suc i) w) (above (n * base + digit (get_or w i 0)) (drop (suc i) w)) (λ d. o)
-
--- what is below a bound is itself
-pub below_same : (bound n d : ℕ) → below bound (Some n) ≡ Some d → n ≡ d
-below_same bound n d e = go (ltb n bound) e
-  where
-    go : (t : Bool) → cond t (Some n) None ≡ Some d → n ≡ d
-    go true e = Some-injective _ _ e
-    go false e = absurd (None-ne-Some _ e)

@@ -1,11 +1,12 @@
 -- The words of a line, and what each form of word stands for. None: malformed.
-use Rattle.std.specs.Prelude.{ℕ, ◌+◌, ◌^◌, Bool, true, false, cond, ◌&&◌, List, [], ◌∷◌, eqb, length, take, drop, Float}
+use Rattle.std.specs.Prelude.{◌≡◌, ℕ, ◌+◌, ◌^◌, Bool, true, false, cond, ◌&&◌, List, [], ◌∷◌, eqb, length, take, drop, Float}
 use Rattle.std.specs.Prelude.{Option, None, Some, option_map}
 use Rattle.std.specs.Option.{option_or}
 use Rattle.std.specs.Float.{binary64}
 use Rattle.std.specs.Float.Ieee.{of_bits}
 use Rattle.text.specs.Digits.{below, number_in}
 use Rattle.text.specs.Decimal.{decimal}
+use Rattle.text.specs.declared.words.Words.{Words}
 
 -- the bytes before the first space (32), or all
 abbrev pub up_to_space : List ℕ → List ℕ
@@ -68,3 +69,13 @@ keyword expected word = cond (same word expected) (Some tt) None
 -- any word
 abbrev pub any_word : List ℕ → Option (List ℕ)
 any_word word = Some word
+
+-- what was read, if anything, and the place where the text goes on: where it was, if the word is malformed
+abbrev pub from_place : {A : Type 0} → ℕ → Option (A × ℕ) → Option A × ℕ
+from_place at None = (None, at)
+from_place at (Some (a, next)) = (Some a, next)
+
+-- the words v, asked for the next one in a form, answered what was read, and are w now
+pub record Reads {A : Type 0} (form : List ℕ → Option A) (v w : Words) (read : Option A) : Type 0 where
+  pub same_line : w.line ≡ v.line
+  pub moved : (read, w.at) ≡ from_place v.at (read_at form v.line.now v.at)

@@ -14,7 +14,7 @@ const POWERS: [f64; 23] = [
     1e17, 1e18, 1e19, 1e20, 1e21, 1e22,
 ];
 
-// The most digits, as the largest number that has them.
+// The largest number of 15 digits: so many are exact in a float.
 const LARGEST: u64 = 999999999999999;
 
 // 10^k, exactly, up to 10^22.

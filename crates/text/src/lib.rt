@@ -4,10 +4,9 @@
 
 mod decimal;
 mod read;
+mod words;
 mod write;
 
-pub use read::{
-    ended, first, read_byte, read_float, read_frame, read_keyword, read_number, read_word,
-    split_once,
-};
+pub use read::{first, read_byte, split_once};
+pub use words::Words;
 pub use write::Writer;

@@ -1,11 +1,10 @@
-// The word that starts at a place of a line, read as a number, a frame, a float or a keyword. The next place is
-// behind the one space after the word, also where the line ends with the word: `ended` then holds. A place where
-// no word starts is malformed. A line and a place are two parameters, since a caller may try two forms at one place.
-ghost use Rattle.std.specs.Prelude.{◌≡◌, ◌==◌, ◌+◌, ◌^◌, ◌≤◌, ◌<◌, ltb, length, drop, Some, option_map, position};
-ghost use Rattle.text.specs.Digits.{number_from, below, number_in};
+// What the words of a line stand for, and their bytes. A line and a place in it are two parameters: the callers count
+// the places, so there is no value that both belong to (`Words` is one for the words read one behind the other).
+ghost use Rattle.std.specs.Prelude.{◌≡◌, ◌==◌, ◌+◌, ◌^◌, ◌≤◌, length, drop, Some, option_map, position};
+ghost use Rattle.text.specs.Digits.{number_from, below};
 ghost use Rattle.text.specs.Digits.{digit as Digits·digit};
 ghost use Rattle.text.specs.Decimal.{before, behind};
-ghost use Rattle.text.specs.Reading.{read_at, any_word, number, frame, keyword, byte_at};
+ghost use Rattle.text.specs.Reading.{byte_at};
 ghost use Rattle.text.specs.Reading.{bits as Reading·bits, float as Reading·float};
 
 use super::decimal::decimal;
@@ -57,7 +56,7 @@ pub fn split_once(word: &[u8], b: u8) -> (&[u8], Option<&[u8]>)
 }
 
 // What is left of a line from a place on.
-fn rest(line: &[u8], at: usize) -> &[u8]
+pub(crate) fn rest(line: &[u8], at: usize) -> &[u8]
     ensures { result.now ≡ drop at line.now }
 {
     line.get(at..).unwrap_or_default()
@@ -69,41 +68,6 @@ pub fn first(line: &[u8], at: usize, b: u8) -> usize
 {
     let (front, _) = split_once(rest(line, at), b);
     at + front.len()
-}
-
-// Whether the word before the place was the line's last.
-pub fn ended(line: &[u8], at: usize) -> bool
-    ensures { result ≡ ltb (length line.now) at }
-{
-    line.len() < at
-}
-
-#[tactic(auto, using(crate::proofs::Words::read_word_lem))]
-pub fn read_word(line: &[u8], at: usize) -> Option<(&[u8], usize)>
-    ensures { option_map (λ w. (w.0.now, w.1)) result ≡ read_at any_word line.now at }
-{
-    let (word, _) = split_once(rest(line, at), b' ');
-    if word.is_empty() {
-        return None;
-    }
-    Some((word, at + word.len() + 1))
-}
-
-// Decimal digits, no sign.
-#[tactic(auto, using(crate::proofs::Words::read_in_form))]
-pub fn read_number(line: &[u8], at: usize) -> Option<(u64, usize)>
-    ensures { result ≡ read_at number line.now at }
-{
-    let (word, next) = read_word(line, at)?;
-    Some((digits(word, 10, 0)?, next))
-}
-
-#[tactic(auto, using(crate::proofs::Words::read_frame_lem))]
-pub fn read_frame(line: &[u8], at: usize) -> Option<(u32, usize)>
-    ensures { result ≡ read_at frame line.now at }
-{
-    let (n, next) = read_number(line, at)?;
-    Some((u32::try_from(n).ok()?, next))
 }
 
 // The 16 hexadecimal digits of a float's bits, lower case.
@@ -118,27 +82,10 @@ fn bits(word: &[u8]) -> Option<f64>
 }
 
 // A float's bits, or a decimal.
-fn float(word: &[u8]) -> Option<f64>
+pub(crate) fn float(word: &[u8]) -> Option<f64>
     ensures { result ≡ Reading·float word.now }
 {
     bits(word).or_else(|| decimal(word))
-}
-
-#[tactic(auto, using(crate::proofs::Words::read_in_form))]
-pub fn read_float(line: &[u8], at: usize) -> Option<(f64, usize)>
-    ensures { result ≡ read_at Reading·float line.now at }
-{
-    let (word, next) = read_word(line, at)?;
-    Some((float(word)?, next))
-}
-
-// The next place, if the word is the one expected.
-#[tactic(auto, using(crate::proofs::Words::read_in_form, crate::proofs::Equal::equal_same))]
-pub fn read_keyword(line: &[u8], at: usize, expected: &[u8]) -> Option<usize>
-    ensures { result ≡ option_map (λ k. k.1) (read_at (keyword expected.now) line.now at) }
-{
-    let (word, next) = read_word(line, at)?;
-    (word == expected).then_some(next)
 }
 
 // The byte whose two hexadecimal digits, lower case, stand at the place.

@@ -1,5 +1,5 @@
 // Text written into a lent buffer, each text behind the other.
-ghost use Rattle.std.specs.Prelude.{◌≡◌, ◌+◌, ◌≤◌, ◌<◌, [], ◌∷◌, length};
+ghost use Rattle.std.specs.Prelude.{◌≡◌, ◌+◌, ◌≤◌, ◌<◌, [], ◌∷◌, length, take};
 ghost use Rattle.std.specs.Option.{SomeIff};
 ghost use Rattle.text.specs.Digits.{digit_character, digits, digit_count};
 ghost use Rattle.text.specs.Writing.{Writes, number_text, float_text, byte_text};
@@ -29,6 +29,16 @@ fn digit_character(d: u64) -> u8
     ensures { result ≡ digit_character d }
 {
     b"0123456789abcdef"[d as usize]
+}
+
+impl<'a> Writer<'a> {
+    // A writer that has written nothing.
+    pub fn new(out: &'a mut [u8]) -> Writer<'a>
+        ensures buffer { result.out ≡ out.entry }
+        ensures start { result.at ≡ 0 }
+    {
+        Writer { out, at: 0 }
+    }
 }
 
 impl Writer<'_> {
@@ -66,6 +76,13 @@ impl Writer<'_> {
             self.out[self.at..end].copy_from_slice(text);
             self.at = end;
         }
+    }
+
+    // What has been written.
+    pub fn written(&self) -> &[u8]
+        ensures { result.now ≡ take self.now.at self.now.out.now }
+    {
+        self.out.get(..self.at).unwrap_or(&*self.out)
     }
 
     // Decimal digits with no zero in front.

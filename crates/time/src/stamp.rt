@@ -1,7 +1,7 @@
 // When a pose is valid, from src/time/stamp.rs.
 ghost use Rattle.std.specs.Prelude.{◌≡◌};
 
-// At all times, or at one instant.
+// At all times, or at one instant. Not an Option<u64>, whose None would have to be read as "at all times".
 #[derive(Clone, Copy, Debug, PartialEq, Eq)]
 pub enum Stamp {
     Static,

@@ -7,47 +7,39 @@ use console::output::{self, Output};
 use registry::error::RegistryError;
 use text::Writer;
 
+fn write_malformed(out: &mut Writer<'_>) {
+    out.write_bytes(b"malformed");
+}
+
 // `done`, or that the line is malformed.
 fn write_done_if(out: &mut Writer<'_>, done: Option<()>) {
-    out.write_bytes(if done.is_some() {
-        b"done"
-    } else {
-        b"malformed"
-    });
+    match done {
+        Some(()) => out.write_bytes(b"done"),
+        None => write_malformed(out),
+    }
 }
 
 fn write_opened(out: &mut Writer<'_>, opened: Option<Result<(), RegistryError>>) {
     match opened {
         Some(result) => answers::write_done(out, result),
-        None => write_done_if(out, None),
+        None => write_malformed(out),
     }
 }
 
-// A name and the words of a slice, or its floats.
-fn write_words(
+// A name and the elements of a slice.
+fn write_elements<T: Copy, F: Fn(&mut Writer<'_>, T)>(
     rt: &impl Output,
     out: &mut Writer<'_>,
     name: &[u8],
-    words: &[u64],
-) -> Result<(), Failed> {
+    elements: &[T],
+    write: F,
+) -> Result<(), Failed>
+    requires { F.IsAlwaysCallable write }
+{
     out.write_bytes(name);
-    for word in words {
+    for element in elements {
         output::spare(rt, out)?;
-        answers::write_number_word(out, *word);
-    }
-    Ok(())
-}
-
-fn write_floats(
-    rt: &impl Output,
-    out: &mut Writer<'_>,
-    name: &[u8],
-    floats: &[f64],
-) -> Result<(), Failed> {
-    out.write_bytes(name);
-    for float in floats {
-        output::spare(rt, out)?;
-        answers::write_float_word(out, *float);
+        write(out, *element);
     }
     Ok(())
 }
@@ -55,19 +47,37 @@ fn write_floats(
 // Every word of the store that is lent.
 fn write_store(rt: &impl Output, out: &mut Writer<'_>, memory: &Memory<'_>) -> Result<(), Failed> {
     let store = memory.store();
-    write_words(rt, out, b"head", store.head)?;
+    write_elements(
+        rt,
+        out,
+        b"head",
+        store.head,
+        |out, word| answers::write_number_word(out, word),
+    )?;
     output::line_end(out);
-    write_words(rt, out, b"instants", store.instants)?;
+    write_elements(
+        rt,
+        out,
+        b"instants",
+        store.instants,
+        |out, word| answers::write_number_word(out, word),
+    )?;
     output::line_end(out);
-    write_floats(rt, out, b"poses", store.poses)
+    write_elements(
+        rt,
+        out,
+        b"poses",
+        store.poses,
+        |out, float| answers::write_float_word(out, float),
+    )
 }
 
 // The number of the name whose bytes have these digits.
 fn write_frame(out: &mut Writer<'_>, map: &[u8], digits: &[u8]) {
-    let mut name = [0u8; 240];
+    let mut name = [0u8; memory::GIVEN_BYTES];
     match memory::put_bytes(digits, &mut name) {
         Some(count) => answers::write_frame(out, map, &name[..count]),
-        None => write_done_if(out, None),
+        None => write_malformed(out),
     }
 }
 
@@ -156,7 +166,7 @@ pub(crate) fn answer(
     match Operation::read(line) {
         Some(operation) => write_answer(rt, out, memory, operation),
         None => {
-            write_done_if(out, None);
+            write_malformed(out);
             Ok(())
         }
     }

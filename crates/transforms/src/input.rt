@@ -17,7 +17,7 @@ const LINE_BYTES: usize = 512;
 // less than 90,000 bytes.
 pub(crate) const ANSWER_BYTES: usize = 131072;
 
-// What has been read of a line. One that is too long is malformed, whatever it begins with.
+// What has been read of a line. One that is too long is malformed, unless it is a comment.
 #[derive(Drop)]
 struct Line {
     bytes: ArrayVec<u8, LINE_BYTES>,
@@ -71,6 +71,7 @@ fn answer_all(
 ) -> Result<(), Failed> {
     let mut chunk = [0u8; CHUNK_BYTES];
     let mut line = Line::new();
+    // More chunks than any input has.
     for _ in 0..u64::MAX {
         output::flush(rt, out)?;
         let count = match input::read(rt, &mut chunk) {

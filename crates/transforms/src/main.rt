@@ -5,7 +5,7 @@ mod answer;
 mod input;
 mod memory;
 mod operation;
-mod words;
+mod values;
 
 use memory::Memory;
 use text::Writer;
@@ -19,9 +19,6 @@ fn main(rt: HostRuntime) {
     let mut map = [0u8; memory::MAP_BYTES];
     let mut out = [0u8; input::ANSWER_BYTES];
     let mut memory = Memory::new(&mut head, &mut instants, &mut poses, &mut map);
-    let mut writer = Writer {
-        out: &mut out,
-        at: 0,
-    };
+    let mut writer = Writer::new(&mut out);
     input::run(&rt, &mut memory, &mut writer);
 }

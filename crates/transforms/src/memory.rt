@@ -5,6 +5,7 @@ use map_loading::error::LoadError;
 use map_loading::load_map;
 use registry::error::RegistryError;
 use registry::layout;
+use registry::limits::{MOST_ROWS, MOST_SAMPLES};
 use registry::store::{Store, StoreMut};
 
 // The words of the head of a store of 256 rows.
@@ -20,30 +21,58 @@ pub(crate) const FLOATS: usize = 458752;
 pub(crate) const MAP_BYTES: usize = 65536;
 
 // The most bytes of a map file, or of a name, that a line gives.
-const LINE_BYTES: usize = 240;
+pub(crate) const GIVEN_BYTES: usize = 240;
 
-// Three slices and the bytes of a map file, and how much of each is lent.
+// A slice, and how much of it is lent.
 #[derive(Drop)]
-pub(crate) struct Memory<'a> {
-    head: &'a mut [u64],
-    instants: &'a mut [u64],
-    poses: &'a mut [f64],
-    map: &'a mut [u8],
-    head_lent: usize,
-    instants_lent: usize,
-    poses_lent: usize,
-    map_lent: usize,
-    ghost head_fits: { head_lent ≤ length head.now },
-    ghost instants_fit: { instants_lent ≤ length instants.now },
-    ghost poses_fit: { poses_lent ≤ length poses.now },
-    ghost map_fits: { map_lent ≤ length map.now },
+struct Lent<'a, T> {
+    all: &'a mut [T],
+    count: usize,
+    ghost fits: { count ≤ length all.now },
 }
 
-// A place or a length that a line gives, if it is at most `most`.
-fn within(n: u64, most: usize) -> Option<usize>
-    ensures { IfSome result (λ k. k ≤ most) }
-{
-    usize::try_from(n).ok().filter(|k| *k <= most)
+impl<'a, T: Copy> Lent<'a, T> {
+    // Nothing is lent at first.
+    fn new(all: &'a mut [T]) -> Lent<'a, T> {
+        Lent { all, count: 0 }
+    }
+
+    // What is lent.
+    fn part(&self) -> &[T] {
+        &self.all[..self.count]
+    }
+
+    // A length that a line gives, if the slice has it.
+    fn within(&self, n: u64) -> Option<usize>
+        ensures { IfSome result (λ k. k ≤ length self.now.all.now) }
+    {
+        usize::try_from(n).ok().filter(|k| *k <= self.all.len())
+    }
+
+    // Writes an element of what is lent, if it has that place.
+    fn set(&mut self, place: u64, element: T) -> Option<()> {
+        let place = usize::try_from(place).ok()?;
+        *self.all[..self.count].get_mut(place)? = element;
+        Some(())
+    }
+}
+
+impl Lent<'_, u8> {
+    // Appends the bytes with these digits, which are lent from now on.
+    fn append(&mut self, digits: &[u8]) -> Option<()> {
+        let count = put_bytes(digits, &mut self.all[self.count..])?;
+        self.count += count;
+        Some(())
+    }
+}
+
+// Three slices and the bytes of a map file.
+#[derive(Drop)]
+pub(crate) struct Memory<'a> {
+    head: Lent<'a, u64>,
+    instants: Lent<'a, u64>,
+    poses: Lent<'a, f64>,
+    map: Lent<'a, u8>,
 }
 
 impl<'a> Memory<'a> {
@@ -55,52 +84,43 @@ impl<'a> Memory<'a> {
         map: &'a mut [u8],
     ) -> Memory<'a> {
         Memory {
-            head,
-            instants,
-            poses,
-            map,
-            head_lent: 0,
-            instants_lent: 0,
-            poses_lent: 0,
-            map_lent: 0,
+            head: Lent::new(head),
+            instants: Lent::new(instants),
+            poses: Lent::new(poses),
+            map: Lent::new(map),
         }
     }
 
     // The store in what is lent.
     pub(crate) fn store(&self) -> Store<'_> {
         Store {
-            head: &self.head[..self.head_lent],
-            instants: &self.instants[..self.instants_lent],
-            poses: &self.poses[..self.poses_lent],
+            head: self.head.part(),
+            instants: self.instants.part(),
+            poses: self.poses.part(),
         }
     }
 
     // What a function of that store answers. A function that answered the store itself would hand out parts of slices that
-    // the facts below are about, which the borrow checker does not cover.
+    // the fact of `Lent` is about, which the borrow checker does not cover.
     pub(crate) fn with_store<T, F: FnOnce(&mut StoreMut<'_>) -> T>(&mut self, f: F) -> T
         requires { F.IsAlwaysCallable f }
     {
-        with_store(
-            &mut self.head[..self.head_lent],
-            &mut self.instants[..self.instants_lent],
-            &mut self.poses[..self.poses_lent],
-            f,
-        )
+        with_lent(&mut self.head, &mut self.instants, &mut self.poses, f)
     }
 
     // The map file that is lent.
     pub(crate) fn map(&self) -> &[u8] {
-        &self.map[..self.map_lent]
+        self.map.part()
     }
 
     // So much of each slice is lent from now on; None, and nothing changes, where there is not so much.
     pub(crate) fn lend(&mut self, head: u64, instants: u64, poses: u64) -> Option<()> {
-        let head = within(head, self.head.len())?;
-        let instants = within(instants, self.instants.len())?;
-        let poses = within(poses, self.poses.len())?;
-        self.head_lent = head;
-        self.instants_lent = instants;
-        self.poses_lent = poses;
+        let head = self.head.within(head)?;
+        let instants = self.instants.within(instants)?;
+        let poses = self.poses.within(poses)?;
+        self.head.count = head;
+        self.instants.count = instants;
+        self.poses.count = poses;
         Some(())
     }
 
@@ -112,7 +132,7 @@ impl<'a> Memory<'a> {
         samples: u64,
         max_age: Option<u64>,
     ) -> Option<Result<(), RegistryError>> {
-        if (1..=256).contains(&rows) && (1..=1024).contains(&samples) {
+        if (1..=MOST_ROWS).contains(&rows) && (1..=MOST_SAMPLES).contains(&samples) {
             let (e, s) = (rows as usize, samples as usize);
             self.lend(
                 layout::head_length(e) as u64,
@@ -123,44 +143,61 @@ impl<'a> Memory<'a> {
         Some(self.with_store(|store| store.open(rows, samples, max_age)))
     }
 
-    // Writes one word or float of what is lent, if it has that place.
+    // This and the next two write one word or float of what is lent, if it has that place.
     pub(crate) fn set_head(&mut self, place: u64, word: u64) -> Option<()> {
-        set(&mut self.head[..self.head_lent], place, word)
+        self.head.set(place, word)
     }
 
     pub(crate) fn set_instants(&mut self, place: u64, word: u64) -> Option<()> {
-        set(&mut self.instants[..self.instants_lent], place, word)
+        self.instants.set(place, word)
     }
 
     pub(crate) fn set_poses(&mut self, place: u64, float: f64) -> Option<()> {
-        set(&mut self.poses[..self.poses_lent], place, float)
+        self.poses.set(place, float)
     }
 
     // No map file is lent from now on.
     pub(crate) fn clear_map(&mut self) {
-        self.map_lent = 0;
+        self.map.count = 0;
     }
 
     // Appends the bytes with these digits to the map file; None, and the file stays as it is, where they are no bytes or
     // there is no room.
     pub(crate) fn append_to_map(&mut self, digits: &[u8]) -> Option<()> {
-        let count = put_bytes(digits, &mut self.map[self.map_lent..])?;
-        self.map_lent += count;
-        Some(())
+        self.map.append(digits)
     }
 
     // Loads the map file that is lent into the store.
     pub(crate) fn load(&mut self) -> Result<(), LoadError> {
-        let map = &self.map[..self.map_lent];
-        with_store(
-            &mut self.head[..self.head_lent],
-            &mut self.instants[..self.instants_lent],
-            &mut self.poses[..self.poses_lent],
+        let map = self.map.part();
+        with_lent(
+            &mut self.head,
+            &mut self.instants,
+            &mut self.poses,
             |store| load_map::load_map(store, map),
         )
     }
 }
 
+// On what is lent of each.
+fn with_lent<T, F: FnOnce(&mut StoreMut<'_>) -> T>(
+    head: &mut Lent<'_, u64>,
+    instants: &mut Lent<'_, u64>,
+    poses: &mut Lent<'_, f64>,
+    f: F,
+) -> T
+    requires { F.IsAlwaysCallable f }
+{
+    with_store(
+        &mut head.all[..head.count],
+        &mut instants.all[..instants.count],
+        &mut poses.all[..poses.count],
+        f,
+    )
+}
+
+// The store is made of slices and not of parts of them: it would keep the loan of one part while the next is lent, which
+// the borrow checker does not cover.
 fn with_store<T, F: FnOnce(&mut StoreMut<'_>) -> T>(
     head: &mut [u64],
     instants: &mut [u64],
@@ -169,18 +206,7 @@ fn with_store<T, F: FnOnce(&mut StoreMut<'_>) -> T>(
 ) -> T
     requires { F.IsAlwaysCallable f }
 {
-    f(&mut StoreMut {
-        head,
-        instants,
-        poses,
-    })
-}
-
-// Writes the element at a place, if there is one.
-fn set<T: Copy>(slice: &mut [T], place: u64, element: T) -> Option<()> {
-    let place = usize::try_from(place).ok()?;
-    *slice.get_mut(place)? = element;
-    Some(())
+    f(&mut StoreMut::new(head, instants, poses))
 }
 
 // Writes the bytes with these digits, and answers how many there are; None where they are no bytes, are more than a line
@@ -188,15 +214,15 @@ fn set<T: Copy>(slice: &mut [T], place: u64, element: T) -> Option<()> {
 pub(crate) fn put_bytes(digits: &[u8], bytes: &mut [u8]) -> Option<usize>
     ensures { IfSome result (λ n. n ≤ length bytes.old) }
 {
-    if 2 * LINE_BYTES < digits.len() || digits.len() % 2 != 0 {
+    if 2 * GIVEN_BYTES < digits.len() || digits.len() % 2 != 0 {
         return None;
     }
     let count = digits.len() / 2;
     if bytes.len() < count {
         return None;
     }
-    for i in 0..count {
-        bytes[i] = text::read_byte(digits, 2 * i)?;
+    for (byte, pair) in bytes.iter_mut().zip(digits.chunks_exact(2)) {
+        *byte = text::read_byte(pair, 0)?;
     }
     Some(count)
 }

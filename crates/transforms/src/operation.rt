@@ -1,6 +1,7 @@
 // The operations of the text protocol, each read from a line.
-use super::words::Words;
+use super::values;
 use geometry::isometry::Isometry;
+use text::Words;
 use time::stamp::Stamp;
 
 // A pose that is added to the tree.
@@ -78,7 +79,7 @@ fn open<'a>(words: &mut Words<'_>) -> Option<Operation<'a>> {
     Some(Operation::Open {
         rows: words.number()?,
         samples: words.number()?,
-        max_age: words.max_age()?,
+        max_age: values::max_age(words)?,
     })
 }
 
@@ -104,8 +105,8 @@ fn add<'a>(words: &mut Words<'_>) -> Option<Operation<'a>> {
     Some(Operation::Add(Addition {
         child: words.frame()?,
         parent: words.frame()?,
-        stamp: words.stamp()?,
-        pose: words.pose()?,
+        stamp: values::stamp(words)?,
+        pose: values::pose(words)?,
     }))
 }
 
@@ -159,8 +160,8 @@ fn frame<'a>(words: &mut Words<'a>) -> Option<Operation<'a>> {
 // `P P FROM TO QUERY`
 fn interp<'a>(words: &mut Words<'_>) -> Option<Operation<'a>> {
     Some(Operation::Interp {
-        first: words.pose()?,
-        second: words.pose()?,
+        first: values::pose(words)?,
+        second: values::pose(words)?,
         start: words.number()?,
         end: words.number()?,
         t: words.number()?,
@@ -186,8 +187,8 @@ fn operands<'a>(name: &[u8], words: &mut Words<'a>) -> Option<Operation<'a>> {
         b"words" => Some(Operation::Words),
         b"frame" => frame(words),
         b"name" => Some(Operation::Name(words.frame()?)),
-        b"mul" => Some(Operation::Mul(words.pose()?, words.pose()?)),
-        b"inv" => Some(Operation::Inv(words.pose()?)),
+        b"mul" => Some(Operation::Mul(values::pose(words)?, values::pose(words)?)),
+        b"inv" => Some(Operation::Inv(values::pose(words)?)),
         b"interp" => interp(words),
         b"sqrt" => Some(Operation::Sqrt(words.float()?)),
         b"acos" => Some(Operation::Acos(words.float()?)),
@@ -199,9 +200,9 @@ fn operands<'a>(name: &[u8], words: &mut Words<'a>) -> Option<Operation<'a>> {
 impl<'a> Operation<'a> {
     // The operation of a line; None where the line is malformed.
     pub(crate) fn read(line: &'a [u8]) -> Option<Operation<'a>> {
-        let mut words = Words::new(line);
+        let mut words = Words { line, at: 0 };
         let name = words.word()?;
         let operation = operands(name, &mut words)?;
-        words.last(operation)
+        words.ended().then_some(operation)
     }
 }

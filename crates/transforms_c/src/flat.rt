@@ -1,7 +1,7 @@
 // What C is told of the results of the calls and of the pose operations: one struct, filled by what they carry.
 ghost use Rattle.std.specs.Prelude.{◌≡◌};
 ghost use Rattle.time.specs.Reply.{refusal};
-ghost use Rattle.registry.specs.Answers.{refusal_of};
+ghost use Rattle.registry.specs.Answers.{refusal_of, carried_by};
 ghost use Rattle.transforms_c.specs.Flat.{plain, posed, any_instant, at_instant, normed, framed, ranged, flat, of_record};
 
 use super::answer::{Answer, FrameAnswer, NameAnswer};
@@ -82,17 +82,23 @@ fn ranged(number: u32, frame: u32, covered: Covered) -> Answer
     r
 }
 
-// A refusal, by what it carries.
-fn refused(error: RegistryError) -> Answer
-    ensures { result ≡ flat (refusal (refusal_of error).0 (refusal_of error).1) }
+// A refusal by its number, and by what it carries.
+fn carrying(number: u32, carried: Carried) -> Answer
+    ensures { result ≡ flat (refusal number (carried_by carried)) }
 {
-    let number = error.number();
-    match error.carried() {
+    match carried {
         Carried::Nothing => plain(number),
         Carried::Norm(norm) => normed(number, norm),
         Carried::Frame(frame) => framed(number, frame),
         Carried::Hop(child, covered) => ranged(number, child, covered),
     }
+}
+
+// The refusal of a call.
+fn refused(error: RegistryError) -> Answer
+    ensures { result ≡ flat (refusal (refusal_of error).0 (refusal_of error).1) }
+{
+    carrying(error.number(), error.carried())
 }
 
 // A record's refusal.
@@ -181,10 +187,8 @@ impl From<Result<(), LoadError>> for Answer {
     fn from(loaded: Result<(), LoadError>) -> Answer {
         match loaded {
             Ok(()) => plain(0),
-            Err(LoadError::Store(error)) => refused(error),
             Err(LoadError::Record(n, error)) => of_record(n, refused(error)),
-            Err(LoadError::StoreInUse) => plain(LoadError::StoreInUse.number()),
-            Err(LoadError::MapForm) => plain(map_form()),
+            Err(error) => carrying(error.number(), error.carried()),
         }
     }
 }

@@ -1,19 +1,20 @@
-// The lengths of the three slices for E rows of S samples; 0 where E or S is out of bounds.
+// The lengths of the three slices for E rows of S samples; 0, as C has no Option, where E or S is out of bounds.
 ghost use Rattle.std.specs.Prelude.{◌≡◌, ◌&&◌};
 ghost use Rattle.transforms_c.specs.Lengths.{rows_fit, capacity_fits, head_len, instants_len, poses_len};
 
 use registry::layout;
+use registry::limits::{MOST_ROWS, MOST_SAMPLES};
 
 fn rows_fit(rows: u64) -> bool
     ensures { result ≡ rows_fit rows }
 {
-    (1..=256).contains(&rows)
+    (1..=MOST_ROWS).contains(&rows)
 }
 
 fn samples_fit(samples: u64) -> bool
     ensures { result ≡ capacity_fits samples }
 {
-    (1..=1024).contains(&samples)
+    (1..=MOST_SAMPLES).contains(&samples)
 }
 
 fn sizes_fit(rows: u64, samples: u64) -> bool

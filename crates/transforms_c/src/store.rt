@@ -1,4 +1,4 @@
-// The calls on a store that is lent.
+// The calls on a store that is lent. C lends three slices, so they are parameters of each call.
 ghost use Rattle.std.specs.Prelude.{◌≡◌};
 ghost use Rattle.registry.specs.Calls.{store_of, open_of, add_of, wipe_of, lookup_of, common_time_of};
 ghost use Rattle.transforms_c.specs.Flags.{age_of_flag, stamp_of_flag};

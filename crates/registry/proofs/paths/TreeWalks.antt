@@ -1,8 +1,8 @@
 -- One step up the tree, by what a frame's edge gives, and how a climb towards a goal ends.
 use Prim.Native.Nat.{ℕ, zero, suc, ◌+◌, ◌-◌, ◌<◌}
 use mathlib.Core.Path.{◌≡◌, sym, ap, ◌∙◌}
-use mathlib.Core.Bool.{Bool, true, cond}
-use Rattle.std.specs.Prelude.{Option, None, Some, is_none}
+use mathlib.Core.Bool.{true, cond}
+use Rattle.std.specs.Prelude.{Option, None, Some}
 use mathlib.Core.List.{List, [], ◌∷◌}
 use native.Mathlib.Nat.{add-zero, zero-add}
 use native.Mathlib.Omega.{arith}
@@ -13,9 +13,7 @@ use Rattle.buffer.specs.Map.{get}
 use Rattle.buffer.proofs.Cases.{both}
 use Rattle.registry.specs.Tree.{Tree, above, ancestors, member}
 use Rattle.registry.specs.Store.{used_in, tree_of}
-use Rattle.registry.specs.Sound.{climb}
 use Rattle.registry.specs.Calls.{store_of}
-use Rattle.registry.specs.Path.{is_parent, known}
 use Rattle.registry.specs.layout.Rows.{head_of}
 use Rattle.registry.specs.paths.Edges.{OfTree, edge_parent}
 use Rattle.registry.specs.paths.Walks.{steps_to_root}
@@ -28,14 +26,6 @@ abbrev rise_by : Option ℕ → (ℕ → List ℕ) → List ℕ
 rise_by None next = []
 rise_by (Some p) next = p ∷ next p
 
-abbrev up_by : Option ℕ → ℕ → ℕ
-up_by None f = f
-up_by (Some p) f = p
-
-abbrev known_by : Option ℕ → Bool → Bool
-known_by None parent = parent
-known_by (Some p) parent = true
-
 -- of a frame of which v was read
 module _ (h : List ℕ) (f : ℕ) (v : Option ℕ) (reads : OfTree h (λ t. v ≡ edge_parent t f)) where
   pub above_by : (n : ℕ) → 0 < n → OfTree h (λ t. above n t f ≡ rise_by v (above (n - 1) t))
@@ -43,12 +33,6 @@ module _ (h : List ℕ) (f : ℕ) (v : Option ℕ) (reads : OfTree h (λ t. v �
   above_by (suc n) l i p =
       let z : suc n - 1 ≡ n = omega arith in
       rw (z, reads i p) (edge_or (get (tree_of (store_of h i p)) f) (λ q. rw q) (λ e q. rw q))
-
-  pub up_by_lem : OfTree h (λ t. up_by v f ≡ climb 1 t f)
-  up_by_lem i p = rw (reads i p) (edge_or (get (tree_of (store_of h i p)) f) (λ q. rw q) (λ e q. rw q))
-
-  pub known_by_lem : OfTree h (λ t. known_by v (is_parent f t) ≡ known t f)
-  known_by_lem i p = rw (reads i p) (edge_or (get (tree_of (store_of h i p)) f) (λ q. rw q) (λ e q. rw q))
 
 -- the walk from a frame has at most as many steps as there are rows
 pub above_used : (h : List ℕ) (n f : ℕ) → n ≡ used_in (head_of h) → OfTree h (λ t. ancestors t f ≡ above n t f)
@@ -87,6 +71,3 @@ module _ (t : Tree) (f goal : ℕ) where
       both (member goal (ancestors t f))
       (λ m. let z : Some n ≡ None = e ∙ rw m in absurd (Some-ne-None _ z))
       (λ m. let z : Some n ≡ Some (length (ancestors t f)) = e ∙ rw m in Some-injective _ _ z)
-
-  pub is_none_member : is_none (steps_to_root t f goal) ≡ member goal (ancestors t f)
-  is_none_member = both (member goal (ancestors t f)) (λ m. rw m) (λ m. rw m)

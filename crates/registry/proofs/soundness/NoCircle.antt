@@ -1,18 +1,17 @@
 -- "No circle" means that no frame is above itself, and climbs of any number of steps that is not below the rows decide it.
-use Prim.Native.Nat.{ℕ, ◌≤◌}
+use Prim.Native.Nat.{ℕ}
 use mathlib.Core.Path.{◌≡◌, refl}
 use mathlib.Core.Bool.{Bool, true}
 use Rattle.std.specs.Prelude.{Option, None, Some}
 use lib.ListN.{length}
 use Rattle.buffer.specs.Map.{all, get}
-use Rattle.buffer.proofs.Cases.{bool_ext}
 use Rattle.buffer.proofs.Maps.{Rising, rising_is}
 use Rattle.buffer.proofs.Alls.{all_get}
 use Rattle.registry.specs.Tree.{Edge, Tree, is_absent}
 use Rattle.registry.specs.Sound as sound
 use Rattle.registry.specs.Sound.{climb, sound}
 use Rattle.registry.specs.Laws.{NoCircle}
-use Rattle.registry.proofs.paths.Climbing.{edge_or, Ends, Grounded, ends_ranked, climb_none, climb_more, ranked_apart, ranked_grounded, apart_grounded}
+use Rattle.registry.proofs.paths.Climbing.{edge_or, Ends, Grounded, ends_ranked, climb_none, ranked_apart, apart_grounded}
 
 is_new : (o : Option Edge) → is_absent o ≡ true → o ≡ None
 is_new None h = refl
@@ -39,12 +38,6 @@ module _ (t : Tree) (r : Rising t) where
   pub grounded_circle : Grounded t → sound.no_circle t ≡ true
   unfolding sound.no_circle
   grounded_circle g = of_ends (length t) g
-
-  pub climbs_decide : (n : ℕ) → length t ≤ n → all (λ x. is_absent (get t (climb n t x.0))) t ≡ sound.no_circle t
-  climbs_decide n l =
-      bool_ext (all (ends_in n) t) (sound.no_circle t)
-      (λ h. grounded_circle (ranked_grounded t _ (ends_ranked t n (ends_of n h))))
-      (λ h. let g = circle_grounded h in of_ends n (λ f. rw (climb_more t (length t) n f l (g f)) (g f)))
 
 pub no_circle : NoCircle
 no_circle t r =

@@ -2,7 +2,6 @@
 use Prim.Native.Nat.{ℕ, ◌^◌, ◌<◌}
 use mathlib.Core.Path.{◌≡◌, sym, ap, ◌∙◌}
 use mathlib.Core.Bool.{Bool, true, ◌&&◌}
-use native.Mathlib.Omega.{arith}
 use lib.Dec.{ltb}
 use borrow.Author.Tests.{ltb-true}
 use Rattle.buffer.specs.Row.{Row}
@@ -11,12 +10,12 @@ use Rattle.buffer.proofs.Alls.{all_at}
 use Rattle.buffer.proofs.SoundRows.{sound_row}
 use Rattle.registry.specs.Tree.{Edge}
 use Rattle.registry.specs.Store.{Store, rows_in, capacity_in, used_in, age_in, limits_of, child_in, parent_in, count_in, row_instants, row_poses, edge_at, row_at, tree_of, sizes_fit}
-use Rattle.registry.specs.layout.Rows.{HasHeader, RowPart, RisingRows}
+use Rattle.registry.specs.layout.Rows.{RowPart, RisingRows}
 use Rattle.registry.specs.Sound.{SoundStore}
 use Rattle.registry.proofs.layout.SizeLaws.{Sizes, sizes_fit_is, sized_is}
 use Rattle.registry.proofs.soundness.Rules.{Rules, sound_is}
 use Rattle.registry.proofs.layout.StoreBack.{Fits, blank}
-use Rattle.registry.proofs.layout.RowLaws.{head_rises, seven_floats}
+use Rattle.registry.proofs.layout.RowLaws.{seven_floats}
 use Rattle.registry.proofs.layout.RowParts.{instants_long}
 use Rattle.registry.proofs.layout.SizeTests.{used_part}
 use Rattle.registry.proofs.layout.StoreRows.{row_sound_lem}
@@ -34,9 +33,6 @@ module _ (s : Store) (ok : SoundStore s) where
 
   abbrev pub rules : Rules s
   rules = (sound_is s).0 ok.rules
-
-  pub sound_header : HasHeader s.head
-  sound_header = omega (arith, sizes.head, head_rises 0 (rows_in s) (omega arith))
 
   pub sound_sizes : sizes_fit (rows_in s) (capacity_in s) s ≡ true
   sound_sizes = (sizes_fit_is (rows_in s) (capacity_in s) s).1 sizes

@@ -11,6 +11,8 @@ use super::Addition;
 use crate::error::RegistryError;
 use crate::store::StoreMut;
 
+// Of StoreMut, with the fact that it is sound as a `requires`: the total calls have one in hand, and a method of CheckedMut
+// would say of the store that is lent inside it what is said here of `self`.
 impl StoreMut<'_> {
     // Adds to a child whose row is r.
     fn add_held(&mut self, r: usize, added: &Addition) -> Result<(), RegistryError>

@@ -84,6 +84,7 @@ impl Checked<'_> {
         ensures { narrowed_reply result
             ≡ narrowed (common_of common) (hops_to (tree_of (words self.now.store)) frame top) }
     {
+        // By hand, as in `compose_chain`: one search of a frame's row gives both its times and its parent.
         let mut at = frame;
         let mut common_span = common;
         while at != top {

@@ -78,7 +78,8 @@ impl<'a> Head<'a> {
         }
     }
 
-    // A word of row r.
+    // A word of row r. That the row lies in the head is asked here and below, since callers count rows: a type for a row
+    // number would be made and taken apart at each word.
     fn row_word(&self, r: usize, place: usize) -> u64
         requires { HasRow r self.now.words.now × (place < 4) }
         ensures { result ≡ row_word (head_of self.now.words.now) r place }

@@ -35,6 +35,7 @@ impl Checked<'_> {
     ) -> Result<Option<Isometry>, RegistryError>
         ensures { reply_by refusal_of result ≡ fold None (hops_to (tree_of (words self.now.store)) frame top) t }
     {
+        // By hand, as in `narrow_chain`: one search of a frame's row gives both its pose and its parent.
         let mut at = frame;
         let mut below = None;
         while at != top {
@@ -48,17 +49,6 @@ impl Checked<'_> {
     }
 }
 
-// What comes out of a lookup, where it is finite.
-#[tactic(auto, unfolding(geometry::specs::Isometry::finite))]
-fn finite(res: Isometry) -> Result<Isometry, RegistryError>
-    ensures { replied pose result ≡ (finite res then λ p. answer (pose p)) }
-{
-    if res.is_finite() {
-        return Ok(res);
-    }
-    Err(RegistryError::NonFiniteValues)
-}
-
 // inverse(target side) times source side, tested; an empty side is left out.
 pub(crate) fn combine_transforms(
     target: Option<Isometry>,
@@ -67,8 +57,8 @@ pub(crate) fn combine_transforms(
     ensures { replied pose result ≡ combined target source }
 {
     let Some(side) = target else {
-        return finite(source.unwrap_or(Isometry::identity()));
+        return Ok(source.unwrap_or(Isometry::identity()).finite()?);
     };
     let back = side.inverse()?;
-    finite(onto(back, source))
+    Ok(onto(back, source).finite()?)
 }

@@ -57,6 +57,7 @@ impl Rows<'_> {
     {
         let mut f = target;
         let mut g = source;
+        // Each turn moves one of the two, so this is no range.
         while f.frame != g.frame {
             if f.above < g.above {
                 g.frame = self.step_up(g.frame);

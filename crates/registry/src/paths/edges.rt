@@ -1,5 +1,5 @@
-// Which edge has a frame, and what it gives: its pose at an instant, the times at which it
-// is served. A frame that is no child is a root.
+// What the edge of a frame gives: its pose at an instant, the times at which it is served. A frame that is no child is a
+// root.
 ghost use Rattle.std.specs.Prelude.{◌≡◌, ◌<◌};
 ghost use Rattle.time.specs.Reply.{reply_by};
 ghost use Rattle.buffer.specs.Answers.{refusal_of as hop_refusal_of};

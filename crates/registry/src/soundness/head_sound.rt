@@ -44,12 +44,7 @@ impl<'a> Head<'a> {
         requires { UsedRows self.now.words.now }
         ensures { result ≡ every (used_in (head_of self.now.words.now)) (row_fits self.now.words.now) }
     {
-        for r in 0..self.used() {
-            if !self.row_fits(r) {
-                return false;
-            }
-        }
-        true
+        (0..self.used()).all(|r| self.row_fits(r))
     }
 
     // Whether the age flag has a named value, and the age is 0 without it.

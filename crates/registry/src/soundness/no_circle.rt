@@ -8,10 +8,11 @@ ghost use Rattle.registry.specs.layout.Rows.{head_of};
 ghost use Rattle.registry.specs.paths.Edges.{OfTree};
 ghost use Rattle.registry.specs.soundness.Climbs.{IsUp, Climbed, jump, jumped};
 
+use crate::limits;
 use crate::rows::Rows;
 
-// The most rows of a store.
-const MOST_ROWS: usize = 256;
+// Room for a number for each row.
+const MOST_ROWS: usize = limits::MOST_ROWS as usize;
 
 impl Rows<'_> {
     // The row of the parent of row r, or the number of rows used where the parent is no child.
@@ -39,6 +40,7 @@ impl Rows<'_> {
     {
         self.parent_rows(rows);
         let mut steps = 1;
+        // The steps double, so they are no range.
         while steps < rows.len() {
             double(rows);
             steps *= 2;

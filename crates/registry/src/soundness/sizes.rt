@@ -5,6 +5,7 @@ ghost use Rattle.registry.specs.Calls.{words};
 
 use crate::layout;
 use crate::layout::head::Head;
+use crate::limits::{MOST_ROWS, MOST_SAMPLES};
 use crate::store::Store;
 
 impl Store<'_> {
@@ -12,7 +13,7 @@ impl Store<'_> {
     pub(crate) fn sizes_fit(&self, rows: u64, capacity: u64) -> bool
         ensures { result ≡ sizes_fit rows capacity (words self.now) }
     {
-        if !(1..=256).contains(&rows) || !(1..=1024).contains(&capacity) {
+        if !(1..=MOST_ROWS).contains(&rows) || !(1..=MOST_SAMPLES).contains(&capacity) {
             return false;
         }
         let rows = rows as usize;

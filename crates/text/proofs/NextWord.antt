@@ -1,11 +1,10 @@
 -- The word at a place of a line, and what is read from it. Assumes nothing.
-use Rattle.std.proofs.Common.{◌≡◌, refl, sym, ap, ◌∙◌, cond, ℕ, ◌+◌, ◌^◌, List, [], ◌∷◌, length, drop, arith}
+use Rattle.std.proofs.Common.{◌≡◌, refl, sym, ap, ◌∙◌, cond, ℕ, ◌+◌, List, [], ◌∷◌, length, drop, arith}
 use Rattle.std.specs.Prelude.{Option, None, Some}
 use borrow.Author.Tests.{ne_eqb}
 use lib.Dec.{eqb}
-use Rattle.text.specs.Digits.{below}
 use Rattle.text.specs.Decimal.{before}
-use Rattle.text.specs.Reading.{up_to_space, word_at, going_on, not_empty, read_at, any_word, number, frame}
+use Rattle.text.specs.Reading.{up_to_space, word_at, going_on, not_empty, read_at, any_word}
 
 -- the word ends before the first space (32)
 up_is_before : (l : List ℕ) → before 32 l ≡ up_to_space l
@@ -36,20 +35,3 @@ read_in_form form line at = go (word_at line at)
     go : (w : List ℕ) → going_on (not_empty form w) (at + length w + 1) ≡ in_form form (going_on (not_empty any_word w) (at + length w + 1))
     go [] = refl
     go (c ∷ w) = refl
-
--- a number that was read, or none, as a frame
-abbrev pub as_frame : Option (ℕ × ℕ) → Option (ℕ × ℕ)
-as_frame None = None
-as_frame (Some (n, next)) = going_on (below (2 ^ 32) (Some n)) next
-
-pub read_frame_lem : (line : List ℕ) (at : ℕ) → read_at frame line at ≡ as_frame (read_at number line at)
-unfolding read_at
-read_frame_lem line at = go (word_at line at)
-  where
-    number_next : (o : Option ℕ) (next : ℕ) → going_on (below (2 ^ 32) o) next ≡ as_frame (going_on o next)
-    number_next None next = refl
-    number_next (Some n) next = refl
-
-    go : (w : List ℕ) → going_on (not_empty frame w) (at + length w + 1) ≡ as_frame (going_on (not_empty number w) (at + length w + 1))
-    go [] = refl
-    go (c ∷ w) = number_next (number (c ∷ w)) (at + length (c ∷ w) + 1)
