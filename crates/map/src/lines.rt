@@ -1,4 +1,4 @@
-// A line of what is printed, put together in a buffer.
+// A line of what is printed, put together in a buffer. By a Writer, as console writes.
 use console::output::{self, Output};
 use text::Writer;
 

@@ -65,7 +65,7 @@ impl Checked<'_> {
         self.rows().used() == 0
     }
 
-    // The edge that row r holds.
+    // The edge that row r holds. (As in layout/head.rt, the caller knows that the row is used.)
     pub(crate) fn edge_at(&self, r: usize) -> Edge
         requires { r < used_in (words self.now.store) }
         ensures { result ≡ told_edge (row_at (words self.now.store) r) }

@@ -145,7 +145,7 @@ pub(crate) fn insert_row(head: &mut [u64], k: usize, child: u64, parent: u64, ki
 // ---- the parts of the slices
 
 impl<'a> Parts<'a> {
-    // Row r's part of the instants.
+    // Row r's part of the instants. (As in layout/head.rt, the caller knows that the row is used.)
     #[tactic(auto, using(crate::proofs::layout::SizeTests::used_part))]
     pub(crate) fn row_instants(&self, r: usize) -> &'a [u64]
         requires { r < used_in (words self.now.store) }
@@ -156,7 +156,7 @@ impl<'a> Parts<'a> {
         &self.store.instants[start..start + capacity]
     }
 
-    // Row r's part of the poses.
+    // Row r's part of the poses. (As in layout/head.rt, the caller knows that the row is used.)
     #[tactic(auto, using(crate::proofs::layout::SizeTests::used_part))]
     pub(crate) fn row_poses(&self, r: usize) -> &'a [f64]
         requires { r < used_in (words self.now.store) }

@@ -1,5 +1,5 @@
-// What the words of a line stand for, and their bytes. A line and a place in it are two parameters: the callers count
-// the places, so there is no value that both belong to (`Words` is one for the words read one behind the other).
+// What the words of a line stand for, and their bytes. `rest`, `first` and `read_byte` take a line and any place in it, and
+// stay apart from `Words`, whose place is where the next word begins.
 ghost use Rattle.std.specs.Prelude.{◌≡◌, ◌==◌, ◌+◌, ◌^◌, ◌≤◌, length, drop, Some, option_map, position};
 ghost use Rattle.text.specs.Digits.{number_from, below};
 ghost use Rattle.text.specs.Digits.{digit as Digits·digit};

@@ -1,5 +1,6 @@
-// The answer to a line. Answers for people end with a line end, so that an empty line is their last; what was answered
-// before a long one is written out first, so that it finds the buffer empty.
+// The answer to a line, by a Writer, as `answers` and console write. Answers for people end with a line end, so that an
+// empty line is their last; what was answered before a long one is written out first, so that it finds the buffer
+// empty.
 use super::memory::{self, Memory};
 use super::operation::Operation;
 use console::failure::Failed;

@@ -1,4 +1,4 @@
-// Flags from C: 0 is no, anything else yes.
+// Flags from C: 0 is no, anything else yes. A flag and its value are two parameters in C, so no `From` takes them.
 ghost use Rattle.std.specs.Prelude.{◌≡◌};
 ghost use Rattle.transforms_c.specs.Flags.{age_of_flag, stamp_of_flag};
 

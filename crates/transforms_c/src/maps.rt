@@ -1,4 +1,4 @@
-// The map of a customer: loaded into a store, and the book of its names.
+// The map of a customer: loaded into a store, and the book of its names. C lends three slices, so they are parameters.
 ghost use Rattle.std.specs.Prelude.{◌≡◌};
 ghost use Rattle.registry.specs.Calls.{store_of};
 ghost use Rattle.map_file.specs.Book.{frame_in, part_in};

@@ -29,7 +29,7 @@ fn unserved(child: u32, cause: GetError) -> RegistryError
 }
 
 impl Checked<'_> {
-    // The samples of the edge that row r holds.
+    // The samples of the edge that row r holds. (As in layout/head.rt, the caller knows that the row is used.)
     pub(crate) fn row(&self, r: usize) -> Buffer<'_>
         requires { r < used_in (words self.now.store) }
         ensures kind { result.kind ≡ (edge_at (words self.now.store) r).kind }
@@ -64,7 +64,7 @@ impl Checked<'_> {
         }
     }
 
-    // The times at which the edge that row r holds is served.
+    // The times at which the edge that row r holds is served. (As in layout/head.rt, the caller knows that the row is used.)
     pub(crate) fn row_coverage(&self, r: usize) -> Coverage
         requires { r < used_in (words self.now.store) }
         ensures { let e = edge_at (words self.now.store) r in result ≡ coverage e.kind e.samples }

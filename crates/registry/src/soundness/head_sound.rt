@@ -27,7 +27,7 @@ impl<'a> Head<'a> {
     }
 
     // Whether row r's frames fit 32 bits, its parent differs from its child, and its kind has a named
-    // value.
+    // value. (As in layout/head.rt, the caller knows that the row lies in the head.)
     fn row_fits(&self, r: usize) -> bool
         requires { HasRow r self.now.words.now }
         ensures { result ≡ row_fits self.now.words.now r }

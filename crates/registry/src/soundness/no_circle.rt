@@ -15,7 +15,8 @@ use crate::rows::Rows;
 const MOST_ROWS: usize = limits::MOST_ROWS as usize;
 
 impl Rows<'_> {
-    // The row of the parent of row r, or the number of rows used where the parent is no child.
+    // The row of the parent of row r, or the number of rows used where the parent is no child. (As in layout/head.rt, the
+    // caller knows that the row is used.)
     fn parent_row(&self, r: usize) -> usize
         requires { r < used_in (head_of self.now.head.now) }
         ensures { IsUp self.now.head.now 1 r result }

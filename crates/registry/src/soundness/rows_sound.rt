@@ -9,7 +9,7 @@ use crate::store::Store;
 use buffer::sound::UntestedRow;
 
 impl Parts<'_> {
-    // The rules of row r.
+    // The rules of row r. (As in layout/head.rt, the caller knows that the row is used.)
     #[tactic(auto, using(crate::proofs::layout::SizeTests::used_part, crate::proofs::layout::RowLaws::seven_floats))]
     fn row_sound(&self, r: usize) -> bool
         requires { r < used_in (words self.now.store) }
