@@ -1,7 +1,6 @@
 -- What is replied to a load, with the record's number, fixes its result: a refusal of the calls has a number up to 17.
-use Rattle.std.proofs.Common.{ℕ, ◌≡◌, ◌<◌, refl, sym, ap, arith, Option, None, Some}
-use Rattle.std.specs.Prelude.{Result, Ok, Err}
-use Rattle.time.specs.Reply.{Carried, nothing}
+use Rattle.std.proofs.Common.{ℕ, ◌≡◌, ◌<◌, refl, sym, ap, arith}
+use Rattle.std.specs.Prelude.{Ok, Err}
 use Rattle.time.proofs.Options.{Some-injective, None-ne-Some, Some-ne-None}
 use Rattle.time.proofs.Replies.{refusal_answer}
 use Rattle.registry.specs.declared.error.RegistryError.{RegistryError}

@@ -1,5 +1,5 @@
 -- The names that have numbers while a map is loaded, as the contracts of the private functions cite them. No public contract rests on these.
-use Rattle.std.specs.Prelude.{List, map}
+use Rattle.std.specs.Prelude.{List, map, take}
 use Rattle.time.specs.declared.stamp.Stamp.TheVariants.{Static}
 use Rattle.registry.specs.Tree.{Addition, addition}
 use Rattle.map_file.specs.Form.{Name, Record}
@@ -9,7 +9,7 @@ use Rattle.map_loading.specs.declared.names.NumberedNames.{NumberedNames}
 
 -- by their numbers
 abbrev pub names_of : NumberedNames → List Name
-names_of s = map (λ n. n.now) s.names.items
+names_of s = map (λ n. n.now) (take s.count s.table.now)
 
 -- the names with numbers behind a record, where these had one before it
 abbrev pub names_after : List Name → Record → List Name

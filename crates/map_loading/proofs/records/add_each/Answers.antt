@@ -12,7 +12,7 @@ use Rattle.map_file.specs.declared.records.Records.{Records}
 use Rattle.map_file.proofs.Placed.{all_counted}
 use Rattle.map_loading.proofs.Adding.{adding_first, adding_room, adding_ends, adding_refused, adding_next}
 use Rattle.map_loading.proofs.Turns.{Taken, taken, none_left, same_over}
-use Rattle.map_loading.proofs.records.add_records.Goals as goal
+use Rattle.map_loading.proofs.records.add_each.Goals as goal
 
 pub loop-k-init : goal.loop-k-init
 loop-k-init c =
@@ -24,7 +24,7 @@ loop-k-init c =
       tt,
       refl,
       record { head = refl; instants = refl; poses = refl },
-      adding_first _ _ c.requires.floats c.args.store.now.sound c.requires.empty _ c.new-names.ensures _ left _ count,
+      adding_first _ _ c.requires.floats c.args.store.now.sound c.requires.empty _ c.requires.unnamed _ left _ count,
     )
 
 pub add_record-requires : goal.add_record-requires

@@ -4,7 +4,7 @@ use Rattle.registry.specs.Calls.{words_mut, SameSlices}
 use Rattle.map_file.specs.Files.{records_left, records_of}
 use Rattle.map_loading.specs.Numbering.{names_of}
 use Rattle.map_loading.proofs.Adding.{Adding}
-use Rattle.map_loading.proofs.records.add_records.Given as goal
+use Rattle.map_loading.proofs.records.add_each.Given as goal
 
 -- those that are left are still to be added
 abbrev pub invariant-loop-k : goal.invariant-loop-k
