@@ -184,6 +184,23 @@ module _ {A : Type 0} where
           let b = ne_eqb k x.0 (λ e. omega arith) in
           rw (a, b, a, b) (ap {B = Map A} (λ r. x ∷ r) ih)
 
+  -- two values at different keys may be put in either order
+  pub put_other : (j k : ℕ) (v w : A) (m : Map A) → Rising m → (j ≡ k → ⊥) → put k w (put j v m) ≡ put j v (put k w m)
+  put_other j k v w m r n =
+      ext (put k w (put j v m)) (put j v (put k w m)) (rising_put k w (put j v m) (rising_put j v m r)) (rising_put j v (put k w m) (rising_put k w m r)) at_each
+    where
+      at_each : (i : ℕ) → get (put k w (put j v m)) i ≡ get (put j v (put k w m)) i
+      at_each i =
+          rw (get_put k w (put j v m) i, get_put j v (put k w m) i, get_put j v m i, get_put k w m i)
+          (both (eqb k i)
+          (λ p. let q : eqb j i ≡ false = ne_eqb j i (λ e. n (e ∙ sym (eqb-true k i p))) in rw (p, q))
+          (λ p. rw p))
+
+  -- what is kept of a map whose keys all pass is the map
+  pub keep_all : (ok : ℕ → Bool) (m : Map A) → all (λ x. ok x.0) m ≡ true → keep ok m ≡ m
+  keep_all ok [] h = refl
+  keep_all ok (x ∷ m) h = rw (and_left (ok x.0) _ h) (ap {B = Map A} (λ r. x ∷ r) (keep_all ok m (and_right (ok x.0) _ h)))
+
   pub keep_keep : (p q : ℕ → Bool) (m : Map A) → keep p (keep q m) ≡ keep (λ k. q k && p k) m
   keep_keep p q [] = refl
   keep_keep p q (x ∷ m) =

@@ -13,8 +13,8 @@ use Rattle.buffer.specs.declared.kind.Kind.{Kind}
 use Rattle.buffer.specs.declared.kind.Kind.TheVariants.{Static, Dynamic}
 use Rattle.buffer.specs.Map.{all, get, put, keep}
 use Rattle.buffer.specs.Samples.{Samples, newest, survives, expire, insert, remove_before, last?}
-use Rattle.buffer.proofs.Cases.{both, none_some, Tri, less, same, more, tri}
-use Rattle.buffer.proofs.Maps.{Rising, rising_put, rising_keep, get_put, get_keep, get_floor, ext, length_keep_le}
+use Rattle.buffer.proofs.Cases.{both, none_some, false_true, Tri, less, same, more, tri}
+use Rattle.buffer.proofs.Maps.{Rising, rising_put, rising_keep, get_put, get_keep, get_floor, ext, keep_all, keep_put_dropped, length_keep_le}
 use Rattle.buffer.proofs.Alls.{all_weaken, all_put, all_keep, all_kept, all_get}
 
 -- every sample survives the newest
@@ -124,6 +124,10 @@ newest_expire age m = newest_keep (survives age (newest m)) m (survives_self age
 pub get_expire : (age : Option ℕ) (m : Samples) (j : ℕ) → get (expire age m) j ≡ cond (survives age (newest m) j) (get m j) None
 get_expire age m j = get_keep (survives age (newest m)) m j
 
+-- in a row of which every sample survives, nothing expires
+pub expire_fresh : (age : Option ℕ) (m : Samples) → Fresh age m → expire age m ≡ m
+expire_fresh age m h = keep_all (survives age (newest m)) m h
+
 pub fresh_expire : (age : Option ℕ) (m : Samples) → Fresh age (expire age m)
 fresh_expire age m = rw (newest_expire age m) (all_kept (survives age (newest m)) m)
 
@@ -186,6 +190,19 @@ insert_other age i j p q m r n =
         (both (eqb j k)
         (λ h. rw (h, ne_eqb i k (λ z. n (z ∙ sym (eqb-true j k h)))))
         (λ h. rw h))
+
+-- a late one already too old is not held, and nothing else changes
+pub insert_late : (age : Option ℕ) (i : ℕ) (p : Isometry) (m : Samples) → Fresh age m → survives age (newest m) i ≡ false → insert age i p m ≡ m
+insert_late age i p m f h =
+    let e : newest (put i p m) ≡ newest m = newest_put i p m ∙ below (tri i (newest m)) in
+    ap (λ (n : ℕ). keep (survives age n) (put i p m)) e
+    ∙ keep_put_dropped (survives age (newest m)) i p m h
+    ∙ keep_all (survives age (newest m)) m f
+  where
+    below : Tri i (newest m) → max i (newest m) ≡ newest m
+    below (less l) = omega arith
+    below (same l) = omega arith
+    below (more l) = absurd (false_true (sym h ∙ survives_up age (newest m) (newest m) i (omega arith) (survives_self age (newest m))))
 
 pub insert_empty : (age : Option ℕ) (i : ℕ) (p : Isometry) → insert age i p [] ≡ (i, p) ∷ []
 insert_empty age i p = let e : max i 0 ≡ i = omega arith in rw (e, survives_self age i)
