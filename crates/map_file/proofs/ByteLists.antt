@@ -1,12 +1,14 @@
--- The parts of a list of bytes are lists of bytes.
+-- Lists of bytes: their parts are lists of bytes, and a lent slice of bytes is one.
 use Prim.Native.Nat.{ℕ, ◌<◌}
 use mathlib.Core.Path.{sym, ◌∙◌}
 use mathlib.Core.List.{List, ◌∷◌, ◌++◌}
-use borrow.Author.Tests.{ltb-true}
+use borrow.Author.Tests.{ltb-true, lt-ltb}
 use lib.Dec.{ltb}
-use lib.ListN.{take, drop, take-append-drop}
+use lib.ListN.{get_or, take, drop, take-append-drop}
+use mir.Syntax.{w8}
+use mir.Val.{Fits}
 use Rattle.buffer.proofs.Cases.{and_left, and_right}
-use Rattle.buffer.proofs.Alls.{all_append}
+use Rattle.buffer.proofs.Alls.{all_append, all_at}
 use Rattle.buffer.specs.Map.{all}
 use Rattle.map_file.specs.Laws.{Bytes}
 
@@ -25,3 +27,7 @@ module _ (front rest : List ℕ) (h : Bytes (front ++ rest)) where
 
 pub bytes_take : (k : ℕ) (bytes : List ℕ) → Bytes bytes → Bytes (take k bytes)
 bytes_take k bytes h = bytes_front (take k bytes) (drop k bytes) (rw (take-append-drop k bytes) h)
+
+-- what is known of a lent slice of bytes
+pub bytes_known : (bytes : List ℕ) → ((i : ℕ) → Fits w8 (get_or bytes i 0)) → Bytes bytes
+bytes_known bytes h = (all_at (λ b. ltb b 256) bytes 0).1 (λ i l. lt-ltb (get_or bytes i 0) 256 (h i).fits)
