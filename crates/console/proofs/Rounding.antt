@@ -3,8 +3,6 @@ use Rattle.std.proofs.Common.{◌≡◌, ℕ, ◌+◌, ◌-◌, ◌*◌, ◌/◌
 use native.Mathlib.Nat.{min-le_left}
 use lib.Ieee.{Float, nan, inf, fin, up, down, lt, neg, of_bits, to_unsigned}
 use lib.Ieee.Fits.{down_pos}
-use Rattle.std.specs.Float.Ieee.Scale.{finite}
-use Rattle.std.specs.Float.{float_is_finite}
 use Rattle.time.specs.Float.{◌⊕◌, ◌⊖◌, ◌⊗◌, whole, one64}
 use Rattle.console.specs.Figures.{beyond, million, half, whole_part, millionths, rounded}
 
@@ -54,10 +52,3 @@ below_million x w m p q h = rw (← p, ← q, lt-ltb m (10 ^ 6) h) refl
 pub a_million : (x : Float) (w m : ℕ) → w ≡ whole_part x → m ≡ millionths x → 10 ^ 6 ≤ m → (w + 1, 0) ≡ rounded x
 unfolding rounded
 a_million x w m p q h = rw (← p, ← q, le-ltb m (10 ^ 6) h) refl
-
--- whether a number is finite, by the library's word
-pub finite_is : (x : Float) → finite x ≡ float_is_finite x
-unfolding float_is_finite
-finite_is nan = refl
-finite_is (inf s) = refl
-finite_is (fin s m e) = refl

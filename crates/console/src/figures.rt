@@ -134,7 +134,7 @@ fn put_magnitude(out: &mut Writer<'_>, x: f64)
         put_scaled(out, multiplied(x), b"e-");
     } else if x < LARGE {
         put_plain(out, x);
-    } else if x.is_finite() {
+    } else if libm::float::is_finite(x) {
         put_scaled(out, divided(x), b"e");
     } else {
         out.write_bytes(b"infinity");

@@ -6,6 +6,7 @@ ghost use Rattle.geometry.specs.Quaternion.{identity, conjugate, scale, mul, wei
 
 use super::error::QuaternionError;
 use super::vector3::Vector3;
+use libm::float::{clamp, is_finite};
 use libm::{acos, sin, sqrt};
 use std::ops::Mul;
 
@@ -84,19 +85,18 @@ impl Quaternion {
         sqrt(self.w * self.w + self.x * self.x + self.y * self.y + self.z * self.z)
     }
 
-    #[tactic(auto, using(libm::proofs::Finite::is_finite_finite))]
     pub fn is_finite(self) -> bool
         ensures { result ≡ is_finite self }
     {
-        self.w.is_finite() && self.x.is_finite() && self.y.is_finite() && self.z.is_finite()
+        is_finite(self.w) && is_finite(self.x) && is_finite(self.y) && is_finite(self.z)
     }
 
-    #[tactic(auto, using(libm::proofs::Finite::is_finite_finite), unfolding(crate::specs::Quaternion::normalize))]
+    #[tactic(auto, unfolding(crate::specs::Quaternion::normalize))]
     pub fn normalize(self) -> Result<Quaternion, QuaternionError>
         ensures { reply_by quaternion_refusal_of result ≡ normalize self }
     {
         let n = self.norm();
-        if !n.is_finite() {
+        if !is_finite(n) {
             return Err(QuaternionError::NonFinite);
         }
         if n < f64::EPSILON {
@@ -155,12 +155,12 @@ impl Quaternion {
     pub fn slerp(self, other: Quaternion, share: f64) -> Quaternion
         ensures { result ≡ slerp self other share }
     {
-        let t = share.clamp(0.0, 1.0);
+        let t = clamp(share, 0.0, 1.0);
         let dot = self.dot(other);
         if dot < 0.0 {
-            return self.between(other.scale(-1.0), (-dot).clamp(-1.0, 1.0), t);
+            return self.between(other.scale(-1.0), clamp(-dot, -1.0, 1.0), t);
         }
-        self.between(other, dot.clamp(-1.0, 1.0), t)
+        self.between(other, clamp(dot, -1.0, 1.0), t)
     }
 }
 

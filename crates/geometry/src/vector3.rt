@@ -2,6 +2,7 @@
 ghost use Rattle.std.specs.Prelude.{◌≡◌};
 ghost use Rattle.geometry.specs.Vector3.{zero_vector, add, scale, is_finite};
 
+use libm::float::is_finite;
 use std::ops::{Add, Mul};
 
 #[repr(C)]
@@ -25,11 +26,10 @@ impl Vector3 {
         Self::ZERO
     }
 
-    #[tactic(auto, using(libm::proofs::Finite::is_finite_finite))]
     pub fn is_finite(self) -> bool
         ensures { result ≡ is_finite self }
     {
-        self.x.is_finite() && self.y.is_finite() && self.z.is_finite()
+        is_finite(self.x) && is_finite(self.y) && is_finite(self.z)
     }
 }
 

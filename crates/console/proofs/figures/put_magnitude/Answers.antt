@@ -1,6 +1,5 @@
 use Rattle.std.proofs.Common.{sym, ◌∙◌}
 use Rattle.console.specs.Figures.{magnitude_texts}
-use Rattle.console.proofs.Rounding.{finite_is}
 use Rattle.console.proofs.figures.put_magnitude.Goals as goal
 
 pub returns-then-x : goal.returns-then-x
@@ -17,8 +16,8 @@ returns-then-x-3 c = rw (c.if-x.false, c.if-x-2.false, c.if-x-3.true) c.put_plai
 
 pub returns-then-is_finite : goal.returns-then-is_finite
 unfolding magnitude_texts
-returns-then-is_finite c = rw (c.if-x.false, c.if-x-2.false, c.if-x-3.false, finite_is c.args.x ∙ sym c.is_finite.ensures.value ∙ c.if-is_finite.true, ← c.divided.ensures) c.put_scaled-then-is_finite.ensures
+returns-then-is_finite c = rw (c.if-x.false, c.if-x-2.false, c.if-x-3.false, sym c.is_finite.ensures ∙ c.if-is_finite.true, ← c.divided.ensures) c.put_scaled-then-is_finite.ensures
 
 pub returns-else-is_finite : goal.returns-else-is_finite
 unfolding magnitude_texts
-returns-else-is_finite c = rw (c.if-x.false, c.if-x-2.false, c.if-x-3.false, finite_is c.args.x ∙ sym c.is_finite.ensures.value ∙ c.if-is_finite.false) c.write_bytes.ensures
+returns-else-is_finite c = rw (c.if-x.false, c.if-x-2.false, c.if-x-3.false, sym c.is_finite.ensures ∙ c.if-is_finite.false) c.write_bytes.ensures
