@@ -31,8 +31,8 @@ impl<'a> Words<'a> {
     pub fn word(&mut self) -> Option<&'a [u8]>
         ensures { Reads any_word self.old self.new (option_map (λ w. w.now) result) }
     {
-        let (word, next) = self.next()?;
-        self.at = next;
+        let (word, after) = self.next()?;
+        self.at = after;
         Some(word)
     }
 
