@@ -13,5 +13,9 @@ value_of (Some x) = x.0
 abbrev pub records_left : Records → List Record
 records_left s = value_of (times s.left record_from s.rest.bytes.now)
 
+-- where in the file the next of them begins
+abbrev pub next_at : Records → ℕ
+next_at s = s.rest.start
+
 abbrev pub records_of : MapFile → List Record
 records_of file = records_left file.records

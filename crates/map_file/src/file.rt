@@ -25,7 +25,7 @@ pub struct MapFile<'a> {
 }
 
 impl<'a> MapFile<'a> {
-    ghost use Rattle.map_file.specs.Files.{records_left, records_of};
+    ghost use Rattle.map_file.specs.Files.{records_left, next_at, records_of};
     ghost use Rattle.map_file.specs.walks.Books.{book_left, book_from};
 
     #[tactic(auto, using(crate::proofs::Heads::unmarked, crate::proofs::Heads::uncounted, crate::proofs::Heads::unread, crate::proofs::Heads::left_over, crate::proofs::Heads::all_read))]
@@ -60,9 +60,10 @@ impl<'a> MapFile<'a> {
         u32::from(self.records.left)
     }
 
-    // Its records.
+    // Its records, the first of which begins behind the head.
     pub fn records(&self) -> Records<'a>
-        ensures { records_left result ≡ records_of self.now }
+        ensures left { records_left result ≡ records_of self.now }
+        ensures place { next_at result ≡ 7 }
     {
         self.records
     }

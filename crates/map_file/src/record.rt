@@ -3,7 +3,7 @@ ghost use Rattle.std.specs.Prelude.{◌≡◌, ◌+◌, ◌*◌, ◌^◌, ◌≤
 ghost use Rattle.std.specs.Float.{binary64};
 ghost use Rattle.std.specs.Float.Ieee.{of_bits};
 ghost use Rattle.map_file.specs.Form.{number, name_from, record_from};
-ghost use Rattle.map_file.specs.Reads.{record_of, pose_of_words};
+ghost use Rattle.map_file.specs.Reads.{behind_name, NameWithin, name_at, record_of, pose_of_words};
 
 use geometry::isometry::Isometry;
 use geometry::quaternion::Quaternion;
@@ -28,6 +28,23 @@ pub struct Record<'a> {
     pub child: Name<'a>,
     pub parent: Name<'a>,
     pub pose: &'a [u8; POSE_BYTES],
+}
+
+// The place behind the name whose length byte stands at a place, which the caller knows to lie within the file.
+pub fn behind_name(map: &[u8], at: usize) -> usize
+    requires { NameWithin map.now at }
+    ensures { result ≡ behind_name map.now at }
+{
+    at + 1 + map[at] as usize
+}
+
+// The bytes of that name.
+pub fn name_at(map: &[u8], at: usize) -> &[u8]
+    requires { NameWithin map.now at }
+    ensures { result.now ≡ name_at map.now at }
+{
+    let end = behind_name(map, at);
+    &map[at + 1..end]
 }
 
 // The float whose eight bytes begin at a place. (By places: the parts of a pose are not alike, so no loop goes over them.)
@@ -77,20 +94,17 @@ impl<'a> Rest<'a> {
         ensures read { option_map name_read result ≡ name_from self.entry.bytes.now }
         ensures places { IfSome result (λ p. NamePlaced self.entry p.0 p.1) }
     {
-        let (&count, bytes) = self.bytes.split_first()?;
+        let &count = self.bytes.first()?;
         if !(1..=LONGEST_NAME).contains(&count) {
             return None;
         }
-        let (name, bytes) = bytes.split_at_checked(count as usize)?;
-        let start = self.start + 1;
-        let name = Name { start, bytes: name };
-        Some((
-            name,
-            Rest {
-                start: start + count as usize,
-                bytes,
-            },
-        ))
+        let (_, bytes) = self.bytes.split_at_checked(count as usize + 1)?;
+        let name = Name {
+            start: self.start + 1,
+            bytes: name_at(self.bytes, 0),
+        };
+        let start = self.start + behind_name(self.bytes, 0);
+        Some((name, Rest { start, bytes }))
     }
 
     // Two names and seven floats, and what stands behind them.

@@ -19,8 +19,8 @@ loop-k-init c =
     let start = c.into_iter-k-iterator.ensures.into_iter_gives in
     let count : enumerate_count c.into_iter-k-iterator.result ≡ 0 = ap enumerate_count start ∙ c.enumerate-k-items.ensures.count in
     let left : records_left (enumerate_source c.into_iter-k-iterator.result) ≡ records_of c.args.file =
-    ap (λ (i : Enumerate Records). records_left (enumerate_source i)) start ∙ ap records_left c.enumerate-k-items.ensures.source ∙ c.records.ensures in (
-      (tt, tt, inl (omega (arith, count, ap length left, all_counted c.records.result, c.records.type_inv, ap length c.records.ensures))),
+    ap (λ (i : Enumerate Records). records_left (enumerate_source i)) start ∙ ap records_left c.enumerate-k-items.ensures.source ∙ c.records.ensures.left in (
+      (tt, tt, inl (omega (arith, count, ap length left, all_counted c.records.result, c.records.type_inv, ap length c.records.ensures.left))),
       tt,
       refl,
       record { head = refl; instants = refl; poses = refl },
@@ -33,7 +33,7 @@ add_record-requires c = adding_room c.loop-k.invariant.4
 pub overflow_cast-result : goal.overflow_cast-result
 overflow_cast-result c =
     let turn : Taken c.loop-k.k-iterator c.in-Some.k c.in-Some.record c.next.new.self = taken _ _ _ _ c.in-Some.ensures.steps in
-    omega (arith, turn.number, ap length turn.left, c.loop-k.invariant.4.number, all_counted c.records.result, c.records.type_inv, ap length c.records.ensures)
+    omega (arith, turn.number, ap length turn.left, c.loop-k.invariant.4.number, all_counted c.records.result, c.records.type_inv, ap length c.records.ensures.left)
 
 pub returns-in-Err : goal.returns-in-Err
 returns-in-Err c =
@@ -50,7 +50,7 @@ pub loop-k-preserved : goal.loop-k-preserved
 loop-k-preserved c =
     let turn : Taken c.loop-k.k-iterator c.in-Some.k c.in-Some.record c.next.new.self = taken _ _ _ _ c.in-Some.ensures.steps in
     let next = adding_next c.loop-k.invariant.4 (record_of c.in-Some.record) _ turn.left (outcome_of c.add_record.result c.add_record.new.store.store.now) c.add_record.ensures.outcome _ c.add_record.ensures.names _ turn.counted (ap (replied told_done) c.in_default.is) in (
-      (tt, tt, inl (omega (arith, next.number, all_counted c.records.result, c.records.type_inv, ap length c.records.ensures))),
+      (tt, tt, inl (omega (arith, next.number, all_counted c.records.result, c.records.type_inv, ap length c.records.ensures.left))),
       tt,
       c.add_record.ensures.same ∙ c.loop-k.invariant.2,
       same_over c.loop-k.invariant.3 c.add_record.ensures.slices,
