@@ -6,16 +6,13 @@ ghost use Rattle.map_file.specs.Book.{frame_of, name_of, part_of};
 ghost use Rattle.map_file.specs.Reads.{bytes_of, part_at};
 
 use crate::book::Book;
-use crate::form::FormError;
+use crate::form::{FormError, HEAD_BYTES};
 use crate::names::Names;
 use crate::record::{Name, Rest};
 use crate::records::Records;
 
 // The mark, and the version 1.
 const MARK_AND_VERSION: &[u8] = b"FRM\x01\x00";
-
-// These and the count.
-const HEAD_BYTES: usize = 7;
 
 // Its records, which begin behind the head.
 #[derive(Clone, Copy)]

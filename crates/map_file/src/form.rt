@@ -7,6 +7,9 @@ ghost use Rattle.map_file.specs.Answers.{refusal_of};
 use crate::file::MapFile;
 use thiserror::Error;
 
+// The mark, the version and the count.
+pub const HEAD_BYTES: usize = 7;
+
 // The file does not have the form.
 #[derive(Clone, Copy, Debug, PartialEq, Eq, Error)]
 #[error("this is no map file, or it is damaged")]
