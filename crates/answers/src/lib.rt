@@ -5,8 +5,8 @@
 mod maps;
 mod write;
 
-pub use maps::{write_frame, write_loaded, write_name};
+pub use maps::{write_frame, write_loaded, write_name, write_record};
 pub use write::{
     write_common_time, write_done, write_float_answer, write_float_word, write_lookup,
-    write_number_word, write_pose, write_posed,
+    write_number_word, write_pose, write_posed, write_refusal,
 };

@@ -2,7 +2,7 @@
 ghost use Rattle.std.specs.Prelude.{◌≡◌, ◌∷◌, [], map, Some};
 ghost use Rattle.time.specs.Reply.{answer, refusal, nothing};
 ghost use Rattle.text.specs.Writing.{Writes, byte_text};
-ghost use Rattle.registry.specs.Answers.{refusal_of};
+ghost use Rattle.registry.specs.Answers.{carried_by};
 ghost use Rattle.map_file.specs.Book.{frame_in, name_in};
 ghost use Rattle.map_loading.specs.Loading.{record_of, load_reply};
 ghost use Rattle.answers.specs.Texts.{none_word, refusal_texts, load_texts, frame_texts, name_texts};
@@ -10,7 +10,7 @@ ghost use Rattle.answers.specs.Texts.{none_word, refusal_texts, load_texts, fram
 use crate::write;
 use map_file::book;
 use map_loading::error::LoadError;
-use registry::error::{Carried, RegistryError};
+use registry::error::Carried;
 use text::Writer;
 
 fn write_none(w: &mut Writer<'_>)
@@ -26,13 +26,14 @@ fn write_map_form(w: &mut Writer<'_>)
     write::write_refusal(w, LoadError::MapForm.number(), Carried::Nothing);
 }
 
-fn write_record(w: &mut Writer<'_>, n: u32, error: RegistryError)
-    ensures { Writes w.old w.new (load_texts (Some n) (refusal (refusal_of error).0 (refusal_of error).1)) }
+// A record's refusal: the record's number, then the refusal by its number, whatever it carries.
+pub fn write_record(w: &mut Writer<'_>, n: u32, number: u32, carried: Carried)
+    ensures { Writes w.old w.new (load_texts (Some n) (refusal number (carried_by carried))) }
 {
     w.write_bytes(b"record");
     write::write_number_word(w, u64::from(n));
     w.write_bytes(b" ");
-    write::write_error(w, error);
+    write::write_refusal(w, number, carried);
 }
 
 // What a load gives.
@@ -41,7 +42,7 @@ pub fn write_loaded(w: &mut Writer<'_>, loaded: Result<(), LoadError>)
 {
     match loaded {
         Ok(()) => w.write_bytes(b"done"),
-        Err(LoadError::Record(n, error)) => write_record(w, n, error),
+        Err(LoadError::Record(n, error)) => write_record(w, n, error.number(), error.carried()),
         Err(error) => write::write_refusal(w, error.number(), error.carried()),
     }
 }

@@ -88,8 +88,8 @@ fn write_carried(w: &mut Writer<'_>, carried: Carried)
     }
 }
 
-// A refusal by its number.
-pub(crate) fn write_refusal(w: &mut Writer<'_>, number: u32, carried: Carried)
+// A refusal by its number, whatever it carries.
+pub fn write_refusal(w: &mut Writer<'_>, number: u32, carried: Carried)
     ensures { Writes w.old w.new (refusal_texts number (carried_by carried)) }
 {
     w.write_bytes(b"no");
@@ -98,7 +98,7 @@ pub(crate) fn write_refusal(w: &mut Writer<'_>, number: u32, carried: Carried)
 }
 
 // The refusal of a call.
-pub(crate) fn write_error(w: &mut Writer<'_>, error: RegistryError)
+fn write_error(w: &mut Writer<'_>, error: RegistryError)
     ensures { Writes w.old w.new (refusal_texts (refusal_of error).0 (refusal_of error).1) }
 {
     write_refusal(w, error.number(), error.carried());
