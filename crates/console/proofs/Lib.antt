@@ -3,6 +3,8 @@ pub mod Decimals
 pub mod Rounding
 pub mod FewEdges
 pub mod OwnEdge
+pub mod EdgesUnder
+pub mod LinesLeft
 pub mod Scaling
 pub mod ToldTexts
 pub mod ClimbLines

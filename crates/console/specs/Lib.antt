@@ -6,5 +6,6 @@ pub mod Dot
 pub mod Tree
 pub mod Reading
 pub mod Why
+pub mod Walk
 pub mod Steps
 pub mod Output

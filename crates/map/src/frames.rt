@@ -28,3 +28,8 @@ pub(crate) fn parents(file: &MapFile<'_>) -> Parents {
     }
     parents
 }
+
+// The parent of a frame.
+pub(crate) fn parent(parents: &[Option<u32>], frame: u32) -> Option<u32> {
+    *parents.get(frame as usize)?
+}

@@ -8,6 +8,14 @@ use map_file::file::MapFile;
 use registry::store::Store;
 use text::Writer;
 
+// Where the walk over the frames stands: next comes the first child of a frame from a number on, or the first root.
+#[derive(Clone, Copy)]
+struct Walk {
+    under: Option<u32>,
+    from: usize,
+    level: usize,
+}
+
 // Where a frame is mounted on its parent, unless it has none.
 fn put_mounting(out: &mut Writer<'_>, store: &Store<'_>, parent: Option<u32>, frame: u32) {
     let Some(parent) = parent else {
@@ -34,25 +42,45 @@ fn print_frame(
     lines::print(rt, out);
 }
 
-// Prints the children of a frame, or the roots, each with the frames below it a level on. No tree has more levels than
-// frames.
-fn print_below(
+// The frame that comes next where the walk stands, unless none is left there.
+fn next_frame(parents: &[Option<u32>], walk: Walk) -> Option<u32> {
+    (0..MOST_FRAMES as u32)
+        .zip(parents)
+        .skip(walk.from)
+        .find(|(_, parent)| **parent == walk.under)
+        .map(|(frame, _)| frame)
+}
+
+// Prints every frame: the walk comes to each once, and once to the end of its children.
+fn print_frames(
     rt: &impl Output,
     out: &mut Writer<'_>,
     store: &Store<'_>,
     file: &MapFile<'_>,
     parents: &[Option<u32>],
-    under: Option<u32>,
-    level: usize,
 ) {
-    if level >= MOST_FRAMES {
-        return;
-    }
-    for (frame, parent) in (0..MOST_FRAMES as u32).zip(parents) {
-        if *parent == under {
-            print_frame(rt, out, store, file, under, frame, level);
-            print_below(rt, out, store, file, parents, Some(frame), level + 1);
-        }
+    let mut walk = Walk {
+        under: None,
+        from: 0,
+        level: 0,
+    };
+    for _ in 0..2 * MOST_FRAMES {
+        walk = match (next_frame(parents, walk), walk.under) {
+            (Some(frame), under) => {
+                print_frame(rt, out, store, file, under, frame, walk.level);
+                Walk {
+                    under: Some(frame),
+                    from: 0,
+                    level: walk.level + 1,
+                }
+            }
+            (None, Some(frame)) => Walk {
+                under: frames::parent(parents, frame),
+                from: frame as usize + 1,
+                level: walk.level.saturating_sub(1),
+            },
+            (None, None) => return,
+        };
     }
 }
 
@@ -70,5 +98,5 @@ pub(crate) fn print(rt: &impl Output, store: &Store<'_>, file: &MapFile<'_>) {
     let mut out = Writer::new(&mut line);
     let parents = frames::parents(file);
     print_counts(rt, &mut out, parents.len(), file.count());
-    print_below(rt, &mut out, store, file, parents.as_slice(), None, 0);
+    print_frames(rt, &mut out, store, file, parents.as_slice());
 }
