@@ -17,10 +17,11 @@ use Rattle.time.specs.declared.stamp.Stamp.{Stamp}
 use Rattle.time.specs.declared.stamp.Stamp.TheVariants as stamp
 use Rattle.time.specs.Reply.{Carried, nothing, norm, frame, hop}
 use Rattle.time.proofs.Replies.{refusal_answer}
+use Rattle.geometry.specs.declared.isometry.Isometry.{Isometry}
 use Rattle.buffer.proofs.Cases.{and_left, and_right}
 use Rattle.registry.specs.declared.error.RegistryError.{RegistryError}
 use Rattle.registry.specs.Answers.{Value, pose, refusal_of, replied, told_done, told_time}
-use Rattle.registry.specs.Laws.{RefusalInjective, ReplyInjective}
+use Rattle.registry.specs.Laws.{RefusalInjective, SameError, ReplyInjective}
 use Rattle.registry.specs.contracts.error.RegistryError.{the_parts as parts, as_values, the_make as make, the_eta as eta, enum}
 
 -- ---- what is read in a refusal
@@ -171,9 +172,31 @@ times_apart stamp.Static (stamp.At j) e = absurd (let z : ◌≡◌ {A = ℕ} 0 
 times_apart (stamp.At i) stamp.Static e = absurd (let z : ◌≡◌ {A = ℕ} 0 1 = cc e in omega arith)
 times_apart (stamp.At i) (stamp.At j) e = let same : i ≡ j = cc e in ap stamp.At same
 
+-- the results of two calls whose values are never told the same
+replied_apart : {A B : Type 0} (told : A → Value) (other : B → Value) → ((v : A) (w : B) → told v ≡ other w → ⊥)
+    → (a : Result A RegistryError) (b : Result B RegistryError) → replied told a ≡ replied other b → SameError a b
+replied_apart told other apart (Ok v) (Ok w) e = let same : told v ≡ other w = cc e in absurd (apart v w same)
+replied_apart told other apart (Ok v) (Err d) e = absurd (refusal_answer (sym e))
+replied_apart told other apart (Err d) (Ok v) e = absurd (refusal_answer e)
+replied_apart told other apart (Err d) (Err b) e =
+    let number : (refusal_of d).0 ≡ (refusal_of b).0 = cc e in
+    let carried : (refusal_of d).1 ≡ (refusal_of b).1 = cc e in
+    (d, refl, ap Err (sym (refusal_injective d b (λ j. (number j, carried j)))))
+
+done_no_time : (u : Unit {0}) (v : Stamp) → told_done u ≡ told_time v → ⊥
+done_no_time u stamp.Static e = cc e
+done_no_time u (stamp.At i) e = cc e
+
+pose_no_time : (p : Isometry) (v : Stamp) → pose p ≡ told_time v → ⊥
+pose_no_time p stamp.Static e = cc e
+pose_no_time p (stamp.At i) e = cc e
+
 pub reply_injective : ReplyInjective
 reply_injective = record {
   dones = replied_injective told_done (λ v w e. refl);
   poses = replied_injective (λ p. pose p) (λ v w e. cc e);
   times = replied_injective told_time times_apart;
+  done_and_pose = replied_apart told_done (λ p. pose p) (λ u p e. cc e);
+  done_and_time = replied_apart told_done told_time done_no_time;
+  pose_and_time = replied_apart (λ p. pose p) told_time pose_no_time;
 }

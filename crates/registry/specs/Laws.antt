@@ -1,6 +1,6 @@
 -- What holds of sound stores and of their trees. Proved in proofs/ under the same names.
 use Rattle.std.specs.Prelude.{ℕ, ◌^◌, ◌≤◌, ◌<◌, ◌≡◌, ◌↔◌, Bool, true, not, length}
-use Rattle.std.specs.Prelude.{Result}
+use Rattle.std.specs.Prelude.{Result, Err}
 use Rattle.std.specs.Float.Ieee.{is_nan}
 use Rattle.time.specs.declared.stamp.Stamp.{Stamp}
 use Rattle.time.specs.Reply.{Carried, answer, refusal}
@@ -97,8 +97,15 @@ pub record ExactRefusals : Type 0 where
 abbrev pub RefusalInjective : Type 0
 RefusalInjective = (a b : RegistryError) → refusal_of a ≡ refusal_of b → a ≡ b
 
--- a reply fixes the result of the call
+-- two results are refused with the same error
+abbrev pub SameError : {A B : Type 0} → Result A RegistryError → Result B RegistryError → Type 0
+SameError a b = (e : RegistryError) × (a ≡ Err e) × (b ≡ Err e)
+
+-- a reply fixes the result of the call; and where two different calls reply the same, both are refused, with the same error
 pub record ReplyInjective : Type 0 where
   pub dones : (a b : Result (Unit {0}) RegistryError) → replied told_done a ≡ replied told_done b → a ≡ b
   pub poses : (a b : Result Isometry RegistryError) → replied pose a ≡ replied pose b → a ≡ b
   pub times : (a b : Result Stamp RegistryError) → replied told_time a ≡ replied told_time b → a ≡ b
+  pub done_and_pose : (a : Result (Unit {0}) RegistryError) (b : Result Isometry RegistryError) → replied told_done a ≡ replied pose b → SameError a b
+  pub done_and_time : (a : Result (Unit {0}) RegistryError) (b : Result Stamp RegistryError) → replied told_done a ≡ replied told_time b → SameError a b
+  pub pose_and_time : (a : Result Isometry RegistryError) (b : Result Stamp RegistryError) → replied pose a ≡ replied told_time b → SameError a b
