@@ -11,6 +11,7 @@ use time::stamp::Stamp;
 
 impl StoreMut<'_> {
     // Puts a pose into the tree, or says why not and leaves every word. The parameters are the Rust's.
+    #[tactic(auto, unfolding(crate::specs::Calls::add_of), using(crate::proofs::soundness::Called::refused_write, crate::proofs::soundness::Called::passed_write, crate::proofs::soundness::Called::passed_sound, crate::proofs::soundness::Called::added_write))]
     pub fn add_transform(
         &mut self,
         child: u32,

@@ -10,6 +10,7 @@ use crate::store::StoreMut;
 
 impl StoreMut<'_> {
     // Drops a moving child's poses before the instant.
+    #[tactic(auto, unfolding(crate::specs::Calls::wipe_of), using(crate::proofs::soundness::Called::refused_write, crate::proofs::soundness::Called::passed_write, crate::proofs::soundness::Called::passed_sound, crate::proofs::soundness::Called::wiped_write))]
     pub fn remove_before(&mut self, child: u32, t: u64) -> Result<(), RegistryError>
         ensures same { SameSlices self.old self.new }
         ensures outcome { outcome_of result self.new ≡ wipe_of (words_mut self.old) child t }

@@ -1,14 +1,22 @@
 -- What the tests of 1 and 2 find, what they make of a call on a store that is lent, and that the calls which write leave a store sound.
 use Prim.Native.Nat.{ℕ, ◌^◌, ◌<◌}
-use mathlib.Core.Path.{◌≡◌, refl, sym, ap, ◌∙◌}
+use mathlib.Core.Path.{◌≡◌, refl, sym, ap, subst, ◌∙◌}
 use mathlib.Core.Bool.{Bool, true, false, not}
 use mathlib.Core.List.{[]}
-use Rattle.time.specs.Reply.{Reply, answer, refusal, nothing, refuse, ◌then◌}
+use Rattle.std.specs.Prelude.{Result}
+use Rattle.std.specs.Result.{IsErrAnd}
+use Rattle.time.specs.Reply.{Reply, Carried, answer, refusal, nothing, refuse, ◌then◌}
 use Rattle.registry.specs.Tree.{Tree, Limits, Addition, add, wipe}
 use Rattle.registry.specs.Store.{Store, limits_of, tree_of, stored, sized}
 use Rattle.registry.specs.Sound.{sound, SoundStore}
-use Rattle.registry.specs.Calls.{written, on_tree}
+use Rattle.registry.specs.declared.error.RegistryError.{RegistryError}
+use Rattle.registry.specs.declared.store.Store.{Store as Lent}
+use Rattle.registry.specs.declared.store.StoreMut.{StoreMut}
+use Rattle.registry.specs.declared.checked.Checked.{Checked}
+use Rattle.registry.specs.Answers.{Value, refusal_of, replied}
+use Rattle.registry.specs.Calls.{Outcome, outcome_of, words, words_mut, written, on_tree, add_of, wipe_of}
 use Rattle.registry.specs.Laws.{InRange, SoundTree}
+use Rattle.registry.proofs.Errors.{passed_on, passed_written}
 use Rattle.registry.proofs.layout.SizeLaws.{sized_is}
 use Rattle.registry.proofs.layout.SoundIsStored.{sound_tree}
 use Rattle.registry.proofs.layout.StoredIsSound.{stored_is_sound}
@@ -58,6 +66,44 @@ module _ (s : Store) (r : Reply (Unit {0})) (h : TestsFind s r) where
   pub written_called : (call : Limits → Tree → Reply Tree)
       → written s (limits_of s) (r then λ u. call (limits_of s) (tree_of s)) ≡ written s (limits_of s) (on_tree s call)
   written_called call = ap (written s (limits_of s)) (called call)
+
+module _ {A : Type 0} (s : Store) (call : Limits → Tree → Reply A) where
+  -- a call that the tests refuse
+  pub refused_call : (k : ℕ) (c : Carried) → TestsFind s (refusal k c) → refusal k c ≡ on_tree s call
+  refused_call k c h = called s (refusal k c) h call
+
+  -- one that they let through, on a store z that is the same
+  pub answered_call : (r : Reply A) (z : Store) → z ≡ s → TestsFind s (answer tt) → r ≡ call (limits_of z) (tree_of z) → r ≡ on_tree s call
+  answered_call r z same h e = e ∙ ap (λ (z : Store). call (limits_of z) (tree_of z)) same ∙ called s (answer tt) h call
+
+-- one that passes the error of the tests on
+pub passed_call : {A : Type 0} (told : A → Value) (s : Store) (call : Limits → Tree → Reply Value) (r : Result A RegistryError) (e : RegistryError)
+    → IsErrAnd r (λ x. x ≡ e) → TestsFind s (refusal (refusal_of e).0 (refusal_of e).1) → replied told r ≡ on_tree s call
+passed_call told s call r e p h = passed_on told r e p ∙ refused_call s call (refusal_of e).0 (refusal_of e).1 h
+
+-- the same of a call that writes to m, whose words are those of the tested store z
+module _ (m : StoreMut) (z : Store) (same : z ≡ words_mut m) (call : Limits → Tree → Reply Tree) where
+  pub refused_write : (k : ℕ) (c : Carried) → TestsFind z (refusal k c)
+      → record { reply = refusal k c; store = words_mut m } ≡ written (words_mut m) (limits_of (words_mut m)) (on_tree (words_mut m) call)
+  refused_write k c h = written_called (words_mut m) (refusal k c) (h ∙ ap (λ (z : Store). on_tree z (λ L t. answer tt)) same) call
+
+  pub passed_write : (r : Result (Unit {0}) RegistryError) (e : RegistryError) → IsErrAnd r (λ x. x ≡ e) → TestsFind z (refusal (refusal_of e).0 (refusal_of e).1)
+      → outcome_of r m ≡ written (words_mut m) (limits_of (words_mut m)) (on_tree (words_mut m) call)
+  passed_write r e p h = passed_written r e m p ∙ refused_write (refusal_of e).0 (refusal_of e).1 h
+
+-- what has passed the tests is sound
+pub passed_sound : (checked : Checked) (lent : Lent) (s : Store) → checked.store ≡ lent → words lent ≡ s → SoundStore s
+passed_sound checked lent s same e = subst SoundStore (ap words same ∙ e) checked.sound
+
+-- and of a sound store a call that writes is the call on its tree
+module _ (s : Store) (ok : SoundStore s) (o : Outcome) where
+  pub added_write : (a : Addition) → o ≡ written s (limits_of s) (add (limits_of s) (tree_of s) a) → o ≡ add_of s a
+  unfolding add_of
+  added_write a e = e ∙ written_called s (answer tt) (finds_sound s ok) (λ L t. add L t a)
+
+  pub wiped_write : (f i : ℕ) → o ≡ written s (limits_of s) (wipe (tree_of s) f i) → o ≡ wipe_of s f i
+  unfolding wipe_of
+  wiped_write f i e = e ∙ written_called s (answer tt) (finds_sound s ok) (λ L t. wipe t f i)
 
 -- ---- what is left is sound
 

@@ -58,7 +58,8 @@ impl Checked<'_> {
             return Ok(None);
         };
         let child = frame as u32;
-        match self.row(row).serve(t) {
+        let held = self.row(row);
+        match held.serve(t) {
             Ok(pose) => Ok(Some((pose, rows.parent(row)))),
             Err(cause) => Err(unserved(child, cause)),
         }

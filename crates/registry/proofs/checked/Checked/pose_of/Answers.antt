@@ -15,11 +15,11 @@ overflow_cast-child c = let s = c.args.self.now in let fits = sound_frame (words
 pub returns-in-Ok-serve : goal.returns-in-Ok-serve
 returns-in-Ok-serve c =
     let s = c.args.self.now in
-    let served = c.serve.ensures.reply c.args.frame ∙ (λ j. served c.args.frame (c.row.ensures.kind j) (c.row.ensures.samples j) c.args.t) in
+    let served = c.serve.ensures.reply c.args.frame ∙ (λ j. served c.args.frame (c.row-held.ensures.kind j) (c.row-held.ensures.samples j) c.args.t) in
     rw (sound_edge (words s.store) s.sound c.args.frame c.in-Ok.row (rw c.rows-rows.ensures at c.in-Ok.ensures), ← served, c.in-Ok-serve.is, c.parent.ensures, c.rows-rows.ensures)
 
 pub returns-in-Err : goal.returns-in-Err
 returns-in-Err c =
     let s = c.args.self.now in
-    let served = c.serve.ensures.reply c.args.frame ∙ (λ j. served c.args.frame (c.row.ensures.kind j) (c.row.ensures.samples j) c.args.t) in
+    let served = c.serve.ensures.reply c.args.frame ∙ (λ j. served c.args.frame (c.row-held.ensures.kind j) (c.row-held.ensures.samples j) c.args.t) in
     rw (sound_edge (words s.store) s.sound c.args.frame c.in-Ok.row (rw c.rows-rows.ensures at c.in-Ok.ensures), ← served, c.in-Err.is, c.unserved.ensures)
