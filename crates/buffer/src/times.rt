@@ -31,10 +31,13 @@ impl Times<'_> {
     pub fn coverage(&self, kind: Kind) -> Coverage
         ensures { (poses : List Float) → result ≡ coverage kind (samples_of self.now.count self.now.instants.now poses) }
     {
-        match (kind, self.range()) {
-            (Kind::Static, _) => Coverage::AllTime,
-            (Kind::Dynamic, Some((start, end))) => Coverage::Range { start, end },
-            (Kind::Dynamic, None) => Coverage::Empty,
+        // The kind first: the range of a static row is not read.
+        if let Kind::Static = kind {
+            return Coverage::AllTime;
+        }
+        match self.range() {
+            Some((start, end)) => Coverage::Range { start, end },
+            None => Coverage::Empty,
         }
     }
 

@@ -14,7 +14,12 @@ impl Rows<'_> {
         if used == 0 {
             return None;
         }
-        let row = frame.checked_sub(self.child(0))?;
+        // Branches, and no `checked_sub`: for that the compiler moves both outcomes, for which each step of a climb waits.
+        let first = self.child(0);
+        if frame < first {
+            return None;
+        }
+        let row = frame - first;
         if used as u64 <= row {
             return None;
         }
