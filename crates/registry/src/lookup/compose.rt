@@ -50,6 +50,7 @@ impl Checked<'_> {
 }
 
 // inverse(target side) times source side, tested; an empty side is left out.
+#[tactic(auto, unfolding(geometry::specs::Isometry::finite))]
 pub(crate) fn combine_transforms(
     target: Option<Isometry>,
     source: Option<Isometry>,
